@@ -1,0 +1,4 @@
+pub mod First
+pub mod Page
+pub mod Seen
+pub mod Family

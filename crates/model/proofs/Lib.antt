@@ -1,0 +1,17 @@
+pub mod Props
+pub mod Nths
+pub mod Made
+pub mod Moves
+pub mod Members
+pub mod Nests
+pub mod Passed
+pub mod Stood
+pub mod Values
+pub mod Uses
+pub mod Turns
+pub mod Empty
+pub mod Created
+pub mod Placed
+pub mod Changed
+pub mod Edited
+pub mod Kept

@@ -1,0 +1,4 @@
+pub mod Numbered
+pub mod Every
+pub mod Read
+pub mod Sums

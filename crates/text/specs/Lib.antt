@@ -1,0 +1,9 @@
+pub mod Bytes
+pub mod Words
+pub mod Numbers
+pub mod Names
+pub mod Kinds
+pub mod Marks
+pub mod Indices
+pub mod Locations
+pub mod Reading
