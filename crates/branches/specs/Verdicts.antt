@@ -1,5 +1,5 @@
 -- What verification says of an operation of a book, and what an accepted branch does.
-use Prim.Native.Nat.{ℕ, _+_, _-_}
+use Prim.Native.Nat.{ℕ, _+_, _<_}
 use mathlib.Core.Bool.{cond}
 use mathlib.Core.Path.{_≡_}
 use lib.ListN.{length}
@@ -38,6 +38,10 @@ verify-branch-of b m i =
 -- the verdict on an operation: the checks that its kind has, else accepted
 abbrev pub verdict-of : Branching → BookM → ℕ → Result Verdict Refusal
 verdict-of b m i = map-ok (λ o. cond (b .branches (page m i .kind)) (judged i (o .body .location) (branch-check b (page m i))) Accepted) (op-row m i)
+
+-- every operation of the book is accepted
+abbrev pub EveryAccepted : Branching → BookM → Type 0
+EveryAccepted b m = (i : ℕ) → i < length (m .ops) → verdict-of b m i ≡ Ok Accepted
 
 -- Operation i hands each successor's block as many operands as the block has arguments, and each argument gets an operand place of the
 -- operation, whose value is defined in the book with the argument's type.

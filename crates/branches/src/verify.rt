@@ -9,7 +9,8 @@ ghost use Rattle.kinds.specs.Family.{Accepted as LayoutAccepted};
 ghost use Rattle.kinds.specs.declared.fault.Verdict.the-variants.{Accepted};
 ghost use Rattle.kinds.specs.Seen.{seen};
 ghost use Rattle.branches.specs.Branch.{successors-check, successor-check, branch-check};
-ghost use Rattle.branches.specs.Verdicts.{judged, verify-branch-of, verdict-of, FeedsBlocks};
+ghost use Rattle.branches.specs.Verdicts.{judged, verify-branch-of, verdict-of, EveryAccepted, FeedsBlocks};
+ghost use Rattle.std.specs.Orderings.{Decides};
 use crate::checks::check_part;
 use book::book::Book;
 use ir::location::Location;
@@ -76,6 +77,27 @@ pub fn verify_operation<F: BranchOpInterface>(fam: &F, book: &Book, op: usize) -
         return Ok(Verdict::Accepted);
     }
     Ok(judge(op, row.location, check_branch(fam, &page)))
+}
+
+// whether every operation is accepted
+pub fn all_accepted<F: BranchOpInterface>(fam: &F, book: &Book) -> bool
+    ensures { λ r. ⌜ Decides r (EveryAccepted (F·BranchOpInterface .branching (now (fam .entry))) (model-of (now (book .entry)))) ⌝ }
+{
+    for i in 0..book.num_ops() {
+        if !accepted(fam, book, i) {
+            return false;
+        }
+    }
+    true
+}
+
+fn accepted<F: BranchOpInterface>(fam: &F, book: &Book, op: usize) -> bool
+    ensures { λ r. ⌜ Decides r (verdict-of (F·BranchOpInterface .branching (now (fam .entry))) (model-of (now (book .entry))) op ≡ Ok Accepted) ⌝ }
+{
+    match verify_operation(fam, book, op) {
+        Ok(Verdict::Accepted) => true,
+        _ => false,
+    }
 }
 
 fn judge(op: usize, location: Location, checked: Result<(), Fault>) -> Verdict

@@ -75,10 +75,10 @@ module _ (line : List ℕ) where
       ⊎-elim
       (λ past. at-end low place past all)
       (λ (hash : getD line place 0 ≡ 35).
-          ⊎-elim
-          (λ (h : place < length line). skipped low place after (omega arith) all ∙ comment (drop place line) (simp length-drop (omega arith)) (first-byte place ∙ hash))
-          (λ past. at-end low place past all)
-          (cases-lt place (length line)))
+      ⊎-elim
+      (λ (h : place < length line). skipped low place after (omega arith) all ∙ comment (drop place line) (simp length-drop (omega arith)) (first-byte place ∙ hash))
+      (λ past. at-end low place past all)
+      (cases-lt place (length line)))
       why
 
   pub next-start : (low : ℕ) (word : Span) → NextWord line low word → words (drop (word .start) line) ≡ words (drop low line)

@@ -1,5 +1,6 @@
-// The course language: how a line is cut into words, and what the words of a line say. Start with words.rt, then
-// statement.rt, which has the statements, and parse.rt, which reads one.
+// The words of the course language: how a line is cut into words, and what a word can be. words.rt finds the next word of
+// a line and cursor.rt reads a line word by word; the other files have numbers, names, kinds, locations and names with an
+// index.
 pub mod cursor;
 pub mod indexed;
 pub mod kinds;

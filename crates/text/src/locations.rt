@@ -7,15 +7,19 @@ use crate::words::is_text;
 use ir::location::Location;
 use ir::location::SourcePosition;
 
+const LARGEST: usize = u32::MAX as usize;
+
 pub fn location(word: &[u8]) -> Option<Location>
     ensures { λ r. ⌜ r ≡ location-of (now (word .entry)) ⌝ }
 {
     if is_text(word, b"-") {
         return Some(Location::Unknown);
     }
-    let (line, column) = cut(b':', word);
-    match (number(line, u32::MAX as usize), number(column, u32::MAX as usize)) {
-        (Some(line), Some(column)) => Some(Location::SrcPos(SourcePosition { line: line as u32, column: column as u32 })),
-        _ => None,
-    }
+    let (front, back) = cut(b':', word);
+    let line = number(front, LARGEST)?;
+    let column = number(back, LARGEST)?;
+    Some(Location::SrcPos(SourcePosition {
+        line: line as u32,
+        column: column as u32,
+    }))
 }

@@ -24,5 +24,9 @@ pub fn cut(mark: u8, word: &[u8]) -> (&[u8], &[u8])
     ensures back { λ r. ⌜ now (r .1) ≡ after mark (now (word .entry)) ⌝ }
 {
     let at = place_of(mark, word);
-    if at < word.len() { (&word[0..at], &word[at + 1..]) } else { (word, &[]) }
+    if at < word.len() {
+        (&word[0..at], &word[at + 1..])
+    } else {
+        (word, &[])
+    }
 }

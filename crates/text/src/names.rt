@@ -4,10 +4,13 @@ ghost use mathlib.Core.Bool.{true, false};
 ghost use Prim.Native.Nat.{_≤_};
 ghost use lib.ListN.{length, take};
 ghost use Rattle.std.specs.Options.{mapped};
-ghost use Rattle.std.specs.Orderings.{Decides};
+ghost use Rattle.std.specs.shelf.Text.{sameBytes};
 ghost use Rattle.text.specs.Bytes.{all-of};
 ghost use Rattle.text.specs.Names.{in-name, is-name, name-of};
 use crate::numbers::is_digit;
+use crate::words::is_text;
+use std::fmt;
+use std::fmt::Write;
 
 pub const LONGEST_NAME: usize = 32;
 
@@ -61,7 +64,10 @@ impl Name {
         if !is_name(word) {
             return None;
         }
-        Some(Name { bytes: padded(word), size: word.len() })
+        Some(Name {
+            bytes: padded(word),
+            size: word.len(),
+        })
     }
 
     pub fn text(&self) -> &[u8]
@@ -73,8 +79,17 @@ impl Name {
     }
 
     pub fn same(&self, other: &Name) -> bool
-        ensures { λ r. ⌜ Decides r (take (now (self .entry) .size) (now (self .entry) .bytes) ≡ take (now (other .entry) .size) (now (other .entry) .bytes)) ⌝ }
+        ensures { λ r. ⌜ r ≡ sameBytes (take (now (self .entry) .size) (now (self .entry) .bytes)) (take (now (other .entry) .size) (now (other .entry) .bytes)) ⌝ }
     {
-        self.text() == other.text()
+        is_text(self.text(), other.text())
+    }
+}
+
+pub impl fmt::Display for Name as NameDisplay {
+    fn fmt<W: fmt::Write>(&self, f: &mut fmt::Formatter<W>) -> fmt::Result {
+        for b in self.text() {
+            f.write_char(*b as char)?;
+        }
+        Ok(())
     }
 }

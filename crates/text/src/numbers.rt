@@ -18,7 +18,11 @@ fn followed_by(n: usize, b: u8, most: usize) -> Option<usize>
         return None;
     }
     let digit = (b - b'0') as usize;
-    if digit <= most && n <= (most - digit) / 10 { Some(n * 10 + digit) } else { None }
+    if digit <= most && n <= (most - digit) / 10 {
+        Some(n * 10 + digit)
+    } else {
+        None
+    }
 }
 
 // The number that the word writes in decimal digits, where it is at most `most`.

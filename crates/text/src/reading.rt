@@ -27,13 +27,19 @@ impl<'a> Words<'a> {
         let start = span.start;
         let end = span.end;
         self.at = end;
-        Some(Word { text: &line[start..end], span })
+        Some(Word {
+            text: &line[start..end],
+            span,
+        })
     }
 
     // Where the words end, once none is left.
     pub fn end(&self) -> Span
         ensures { λ r. ⌜ (left (now (self .entry)) ≡ [] → Stands (line-of (now (self .entry))) [] r) ⌝ }
     {
-        Span { start: self.at, end: self.at }
+        Span {
+            start: self.at,
+            end: self.at,
+        }
     }
 }

@@ -68,5 +68,9 @@ pub fn next_word(line: &[u8], from: usize) -> Option<Span>
 {
     let start = skip_blanks(line, from);
     let end = skip_word(line, start);
-    if start < end { Some(Span { start, end }) } else { None }
+    if start < end {
+        Some(Span { start, end })
+    } else {
+        None
+    }
 }

@@ -7,9 +7,18 @@ use Rattle.std.specs.declared.result.Result.{Result}
 use Rattle.std.specs.declared.result.Result.the-variants.{Ok, Err}
 use Rattle.kinds.specs.Page.{Page}
 use Rattle.kinds.specs.Family.{Branching}
-use Rattle.timing.specs.declared.kinds.Kind.the-variants.{Yield, Br, CondBr}
-use Rattle.timing.specs.declared.kinds.LayoutCode.the-variants.{WrongCount}
-use Rattle.timing.specs.Kinds.{kind-number, code-number}
+use Rattle.ir.specs.Kinds.{kind-number}
+use Rattle.ir.specs.declared.kind.Kind.the-variants.{Yield, Br, CondBr}
+use Rattle.timing.specs.declared.family.LayoutCode.{LayoutCode}
+use Rattle.timing.specs.declared.family.LayoutCode.the-variants.{WrongCount, NoBlock, WrongOperands, WrongYield, TooManyEdges}
+
+-- the numbers of the codes
+abbrev pub code-number : LayoutCode → ℕ
+code-number WrongCount = 1
+code-number NoBlock = 2
+code-number WrongOperands = 3
+code-number WrongYield = 4
+code-number TooManyEdges = 5
 
 abbrev pub terminates-in : ℕ → Bool
 terminates-in k = eqb k (kind-number Yield) || (eqb k (kind-number Br) || eqb k (kind-number CondBr))

@@ -2,9 +2,9 @@
 ghost use mathlib.Core.Path.{_≡_};
 ghost use Rattle.kinds.specs.Seen.{seen};
 ghost use Rattle.timing.specs.Timing.{terminates-in, branches-in, br-layout};
-use crate::kinds::Kind;
-use crate::kinds::LayoutCode;
-use crate::kinds::Timing;
+use crate::family::LayoutCode;
+use crate::family::Timing;
+use ir::kind::Kind;
 use kinds::interfaces::BranchOpInterface;
 use kinds::interfaces::IsTerminatorInterface;
 use kinds::page::OpPage;
@@ -14,7 +14,7 @@ pub impl IsTerminatorInterface for Timing as TimingTerminator {
     ghost terminates = { λ _. terminates-in };
 
     fn is_terminator(&self, kind: u8) -> bool {
-        kind == Kind::Yield as u8 || kind == Kind::Br as u8 || kind == Kind::CondBr as u8
+        kind == Kind::Yield.number() || kind == Kind::Br.number() || kind == Kind::CondBr.number()
     }
 }
 
@@ -24,7 +24,7 @@ pub impl BranchOpInterface for Timing as TimingBranch {
     fn shown_branches(&self) {}
 
     fn is_branch(&self, kind: u8) -> bool {
-        kind == Kind::Br as u8
+        Kind::Br.number() == kind
     }
 
     fn successor_operand_layout(&self, page: &OpPage<'_>) -> Result<(), u8> {

@@ -1,3 +1,3 @@
-// The timing family: the kinds that our own course programs are made of. Start with kinds.rt; specs/Timing.antt has what they mean.
-mod branches;
-pub mod kinds;
+// The timing family: what the kinds of our own course programs mean. Start with family.rt; specs/Timing.antt has the definitions.
+pub mod branches;
+pub mod family;

@@ -2,7 +2,6 @@
 ghost use mathlib.Core.Path.{_≡_};
 ghost use Prim.Native.Nat.{_<_};
 ghost use lib.ListN.{getD, length};
-ghost use Rattle.std.specs.Options.{mapped};
 ghost use Rattle.model.specs.Checks.{map-ok, op-row};
 ghost use Rattle.rows.specs.Of.{op-model, block-model};
 ghost use Rattle.book.specs.Of.{model-of};
@@ -39,12 +38,6 @@ impl<'a> OpPage<'a> {
         &self.book.ops[self.op]
     }
 
-    pub fn row(&self) -> usize
-        ensures { λ r. ⌜ r ≡ seen (now (self .entry)) .row ⌝ }
-    {
-        self.op
-    }
-
     pub fn kind(&self) -> u8
         ensures { λ r. ⌜ r ≡ seen (now (self .entry)) .kind ⌝ }
     {
@@ -55,18 +48,6 @@ impl<'a> OpPage<'a> {
         ensures { λ r. ⌜ now r ≡ seen (now (self .entry)) .operands ⌝ }
     {
         self.operation().operands.as_slice()
-    }
-
-    pub fn sizes(&self) -> Option<&[u32]>
-        ensures { λ r. ⌜ mapped (λ z. now z) r ≡ seen (now (self .entry)) .sizes ⌝ }
-    {
-        self.operation().sizes()
-    }
-
-    pub fn results(&self) -> &[Definition]
-        ensures { λ r. ⌜ now r ≡ seen (now (self .entry)) .results ⌝ }
-    {
-        self.operation().results.as_slice()
     }
 
     pub fn num_successors(&self) -> usize

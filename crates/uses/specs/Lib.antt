@@ -1,0 +1,4 @@
+pub mod Find
+pub mod Listing
+pub mod Values
+pub mod Blocks
