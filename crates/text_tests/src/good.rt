@@ -13,10 +13,10 @@ static LINES: [(&'static str, &'static str); 12] = [
     ("\ttypes 0  65535 007# the ids", "types 0 65535 7"),
     ("block start", "block start"),
     ("block _b2 0 18446744073709551615", "block _b2 0 18446744073709551615"),
-    ("op a plain", "op a 0 at - results operands successors regions 0"),
+    ("op a plain", "op a 0 results operands successors regions 0"),
     ("op a cond_br at 12:7 operands t.0 u.1 successors b c", "op a 3 at 12:7 results operands t.0 u.1 successors b c regions 0"),
     ("op split 255 at - results 0 1 regions 2", "op split 255 at - results 0 1 operands successors regions 2"),
-    ("op a switch results operands successors regions 0", "op a 6 at - results operands successors regions 0"),
+    ("op a switch results operands successors regions 0", "op a 6 results operands successors regions 0"),
     ("place a in start", "place a in start"),
     ("place start in a.1 # its second region", "place start in a.1"),
 ];

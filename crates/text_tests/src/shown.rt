@@ -30,10 +30,11 @@ fn put_numbers(heap: Global, out: &mut Vec<u8>, numbers: &[usize]) -> Result<(),
     Ok(())
 }
 
-fn put_location(heap: Global, out: &mut Vec<u8>, location: Location) -> Result<(), AllocError> {
+fn put_location(heap: Global, out: &mut Vec<u8>, location: Option<Location>) -> Result<(), AllocError> {
     match location {
-        Location::Unknown => out.extend_from_slice(b" at -"),
-        Location::SrcPos(p) => {
+        None => Ok(()),
+        Some(Location::Unknown) => out.extend_from_slice(b" at -"),
+        Some(Location::SrcPos(p)) => {
             out.extend_from_slice(b" at")?;
             put_number(heap, out, b' ', p.line as usize)?;
             put_number(heap, out, b':', p.column as usize)
