@@ -2,6 +2,11 @@
 ghost use mathlib.Core.Path.{_≡_};
 ghost use Prim.Native.Nat.{_≤_};
 ghost use lib.ListN.{length};
+ghost use Rattle.std.specs.Of.Vec.{vec-items};
+ghost use Rattle.std.specs.Results.{Cases};
+ghost use Rattle.model.specs.Model.{empty};
+ghost use Rattle.book.specs.Of.{model-of};
+ghost use Rattle.session.specs.Entered.{CourseLed, SoFar};
 use crate::course::Course;
 use crate::enter::enter;
 use crate::names::Names;
@@ -64,7 +69,9 @@ fn here(line: &[u8], number: u32) -> Location {
 }
 
 // the course that a first line with types begins
-fn begin(heap: Global, types: TypesLine) -> Result<Course, Trouble> {
+fn begin(heap: Global, types: TypesLine) -> Result<Course, Trouble>
+    ensures { λ r. ⌜ Cases r (λ c. model-of (c .book) ≡ empty (vec-items (types .ids))) (λ _. Unit {0}) ⌝ }
+{
     match Book::new(heap, &types.ids) {
         Ok(book) => Ok(Course { book, names: Names::new(heap) }),
         Err(Unmade::Refused(refusal)) => Err(Trouble::Refused(refusal)),
@@ -73,7 +80,9 @@ fn begin(heap: Global, types: TypesLine) -> Result<Course, Trouble> {
 }
 
 // a statement, on the course so far or at its beginning
-fn go_on(heap: Global, course: Option<Course>, statement: Statement, here: Location) -> Result<Course, Trouble> {
+fn go_on(heap: Global, course: Option<Course>, statement: Statement, here: Location) -> Result<Course, Trouble>
+    ensures { λ r. ⌜ (SoFar course → Cases r CourseLed (λ _. Unit {0})) ⌝ }
+{
     match (course, statement) {
         (None, Statement::Types(types)) => begin(heap, types),
         (None, _) => Err(Trouble::TypesMissing),
@@ -84,7 +93,9 @@ fn go_on(heap: Global, course: Option<Course>, statement: Statement, here: Locat
     }
 }
 
-fn read_one(heap: Global, course: Option<Course>, line: &[u8], number: u32) -> Result<Option<Course>, Wrong> {
+fn read_one(heap: Global, course: Option<Course>, line: &[u8], number: u32) -> Result<Option<Course>, Wrong>
+    ensures { λ r. ⌜ (SoFar course → Cases r SoFar (λ _. Unit {0})) ⌝ }
+{
     match read_line(heap, line) {
         Ok(None) => Ok(course),
         Ok(Some(statement)) => match go_on(heap, course, statement, here(line, number)) {
@@ -97,7 +108,9 @@ fn read_one(heap: Global, course: Option<Course>, line: &[u8], number: u32) -> R
 }
 
 // the course that the text says, or its first line that is wrong
-pub fn read_course(heap: Global, text: &[u8]) -> Result<Course, Failure> {
+pub fn read_course(heap: Global, text: &[u8]) -> Result<Course, Failure>
+    ensures { λ r. ⌜ Cases r CourseLed (λ _. Unit {0}) ⌝ }
+{
     let mut course = None;
     let mut number = 0u32;
     let mut at = 0;
