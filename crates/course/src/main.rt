@@ -1,4 +1,6 @@
 // Reads a course file, carries it out line by line, verifies every operation, and says whether the program may be loaded.
+#![tactic(auto)]
+
 use anyhow::anyhow;
 use session::course::Course;
 use session::read::read_course;

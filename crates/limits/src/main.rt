@@ -1,5 +1,7 @@
 // Every capacity at its limits: none, one short, exactly full, one over. Prints 0 for a call that is granted, and else the number of the
 // refusal; what it must print stands in the file stdout.
+#![tactic(auto)]
+
 use anyhow::anyhow;
 use book::book::Book;
 use creating::basic_block::new_block;

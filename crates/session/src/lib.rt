@@ -1,4 +1,6 @@
 // A course being read: its book, the names that its lines gave, and how a line is carried out. Start with course.rt, then enter.rt and read.rt.
+#![tactic(auto)]
+
 pub mod course;
 pub mod enter;
 pub mod names;

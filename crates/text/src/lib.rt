@@ -1,6 +1,8 @@
 // The words of the course language: how a line is cut into words, and what a word can be. words.rt finds the next word of
 // a line and cursor.rt reads a line word by word; the other files have numbers, names, kinds, locations and names with an
 // index.
+#![tactic(auto)]
+
 pub mod cursor;
 pub mod indexed;
 pub mod kinds;
