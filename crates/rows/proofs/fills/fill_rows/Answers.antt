@@ -4,6 +4,6 @@ use Rattle.rows.proofs.fills.fill_rows.Goals as goal
 
 pub loop-i-preserved : goal.loop-i-preserved
 loop-i-preserved c = (
-  c.push-reserved.ensures.items ∙ (ap (λ (l : List ℕ). l ++ (c.args.first + c.loop-i.i) ∷ []) c.loop-i.invariant.0 ∙ sym (counting_more c.args.first c.loop-i.i)),
-  (omega (arith, c.loop-i.invariant.1.0, c.push-reserved.ensures.len), c.push-reserved.ensures.capacity ∙ c.loop-i.invariant.1.1),
+  c.push_reserved.ensures.items ∙ (ap (λ (l : List ℕ). l ++ (c.args.first + c.loop-i.i) ∷ []) c.loop-i.invariant.0 ∙ sym (counting_more c.args.first c.loop-i.i)),
+  (omega (arith, c.loop-i.invariant.1.0, c.push_reserved.ensures.len), c.push_reserved.ensures.capacity ∙ c.loop-i.invariant.1.1),
 )
