@@ -11,8 +11,8 @@ index-requires c =
     let v = c.args.self.now in
     omega (arith, successor_within (model_of v.book.now) v.op c.args.s (record { block = 0; use_uid = 0 }) (vec_items c.operation.result.now.successors) (ap (λ (o : OpM). o.body.successors) c.operation.ensures) c.requires, c.operation.result.now.successors.ok.0)
 
-pub block-row-requires : goal.block-row-requires
-block-row-requires c =
+pub block_row-requires : goal.block_row-requires
+block_row-requires c =
     let v = c.args.self.now in
     let b = v.book.now in
     successor_there (model_of b) v.op c.args.s c.index.result.now (vec_items c.operation.result.now.successors) (ap (λ (o : OpM). o.body.successors) c.operation.ensures) c.requires c.sound.ensures (omega (arith, v.within, b.ops.ok.0, length-map (vec_items b.ops) op_model)) c.index.ensures
@@ -20,5 +20,5 @@ block-row-requires c =
 pub returns : goal.returns
 returns c =
     let v = c.args.self.now in
-    c.as-slice.ensures.value ∙ (ap (λ (x : BlockM). x.args) c.block-row.ensures ∙
+    c.as_slice.ensures.value ∙ (ap (λ (x : BlockM). x.args) c.block_row.ensures ∙
     successor_args (model_of v.book.now) v.op c.args.s c.index.result.now (vec_items c.operation.result.now.successors) (ap (λ (o : OpM). o.body.successors) c.operation.ensures) c.requires c.index.ensures)

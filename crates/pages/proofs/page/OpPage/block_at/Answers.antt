@@ -8,4 +8,4 @@ use Rattle.pages.proofs.page.OpPage.block_at.Goals as goal
 
 pub returns : goal.returns
 returns c =
-    ap (option_map (block_page (book_of c.args.self.now))) c.place.ensures ∙ (sym (nth_map_at (block_page (book_of c.args.self.now)) c.block-rows.result.now c.args.b) ∙ ap (λ xs. slice_get xs c.args.b) c.block-rows.ensures.value)
+    ap (option_map (block_page (book_of c.args.self.now))) c.place.ensures ∙ (sym (nth_map_at (block_page (book_of c.args.self.now)) c.block_rows.result.now c.args.b) ∙ ap (λ xs. slice_get xs c.args.b) c.block_rows.ensures.value)

@@ -6,7 +6,7 @@ use Rattle.pages.proofs.page.OpPage.block_rows.Goals as goal
 
 pub returns-in-Some : goal.returns-in-Some
 returns-in-Some c =
-    let e = ap (map (block_page (book_of c.args.self.now))) c.region-blocks.ensures ∙ ap (λ o. (unwrap_or o no_region_page).blocks) c.in-Some.ensures in
+    let e = ap (map (block_page (book_of c.args.self.now))) c.region_blocks.ensures ∙ ap (λ o. (unwrap_or o no_region_page).blocks) c.in-Some.ensures in
     record { value = e; count = sym (length-map _ _) ∙ ap length e }
 
 pub returns-in-None : goal.returns-in-None

@@ -3,4 +3,4 @@ use Rattle.std.proofs.lemmas.List.{length-map}
 use Rattle.pages.proofs.page.OpPage.num_ops.Goals as goal
 
 pub returns : goal.returns
-returns c = sym (length-map _ _) ∙ ap length c.op-rows.ensures
+returns c = sym (length-map _ _) ∙ ap length c.op_rows.ensures

@@ -8,4 +8,4 @@ use Rattle.pages.proofs.page.OpPage.op_at.Goals as goal
 
 pub returns : goal.returns
 returns c =
-    ap (option_map (inner_page (book_of c.args.self.now))) c.place.ensures ∙ (sym (nth_map_at (inner_page (book_of c.args.self.now)) c.op-rows.result.now c.args.j) ∙ ap (λ xs. slice_get xs c.args.j) c.op-rows.ensures)
+    ap (option_map (inner_page (book_of c.args.self.now))) c.place.ensures ∙ (sym (nth_map_at (inner_page (book_of c.args.self.now)) c.op_rows.result.now c.args.j) ∙ ap (λ xs. slice_get xs c.args.j) c.op_rows.ensures)

@@ -8,4 +8,4 @@ use Rattle.pages.proofs.page.OpPage.region_at.Goals as goal
 
 pub returns : goal.returns
 returns c =
-    ap (option_map (region_page (book_of c.args.self.now))) c.place.ensures ∙ (sym (nth_map_at (region_page (book_of c.args.self.now)) c.region-rows.result.now c.args.k) ∙ ap (λ xs. slice_get xs c.args.k) c.region-rows.ensures.value)
+    ap (option_map (region_page (book_of c.args.self.now))) c.place.ensures ∙ (sym (nth_map_at (region_page (book_of c.args.self.now)) c.region_rows.result.now c.args.k) ∙ ap (λ xs. slice_get xs c.args.k) c.region_rows.ensures.value)

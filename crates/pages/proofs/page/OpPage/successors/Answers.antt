@@ -7,5 +7,5 @@ use Rattle.pages.proofs.page.OpPage.successors.Goals as goal
 
 pub returns : goal.returns
 returns c =
-    let e = c.as-slice.ensures.value ∙ ap (λ (o : OpM). o.body.successors) c.operation.ensures in
+    let e = c.as_slice.ensures.value ∙ ap (λ (o : OpM). o.body.successors) c.operation.ensures in
     record { value = ap (map (successor_page (book_of c.args.self.now))) e; count = ap length e ∙ sym (length-map _ _) }
