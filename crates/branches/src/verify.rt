@@ -25,6 +25,7 @@ fn check_successor<F: BranchOpInterface>(fam: &F, page: &OpPage<'_>, s: usize) -
     check_part(page.operands(), range, page.successor_args(s))
 }
 
+#[tactic(auto, using(kinds::proofs::Firsts::first_stops, kinds::proofs::Firsts::first_more))]
 fn check_successors<F: BranchOpInterface>(fam: &F, page: &OpPage<'_>) -> Result<(), Fault>
     requires { LayoutAccepted (F.BranchOpInterface.branching fam.now) (seen page.now) }
     ensures { result ≡ successors_check (F.BranchOpInterface.branching fam.now) (seen page.now) }
