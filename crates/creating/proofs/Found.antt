@@ -7,7 +7,7 @@ use Rattle.ir.specs.declared.refusal.Refusal.TheVariants.{NoValue}
 use Rattle.ir.specs.declared.value.Value.{Value}
 use Rattle.ir.specs.declared.value.Operand.{Operand}
 use Rattle.model.specs.Model.{BookM, numbered, type_of}
-use Rattle.model.specs.Checks.{and_then, map_ok, value_type, operand, operands_of}
+use Rattle.model.specs.Checks.{and_then, map_ok, value_type, operands_of}
 use Rattle.creating.specs.Places.{typed_place}
 
 abbrev pub found : BookM → List Value → Result (Unit {0}) Refusal

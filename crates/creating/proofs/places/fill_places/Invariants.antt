@@ -1,4 +1,4 @@
-use Rattle.std.proofs.Common.{◌≡◌, length, take}
+use Rattle.std.proofs.Common.{◌≡◌, take}
 use Rattle.model.specs.Model.{numbered}
 use Rattle.book.specs.Of.{model_of}
 use Rattle.creating.specs.Places.{typed_place}

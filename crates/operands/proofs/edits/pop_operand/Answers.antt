@@ -8,16 +8,16 @@ use Rattle.operands.proofs.edits.pop_operand.Goals as goal
 pub returns-then-n-eq0 : goal.returns-then-n-eq0
 returns-then-n-eq0 c =
     let m = model_of c.args.book.now in
-    let o = c.in-ok-op.field-0.now in
+    let o = c.in_ok-op.field-0.now in
     record {
-      step = pop_empty m c.args.op c.len-n.result (op_model o) c.in-ok-op.ensures.value (c.len-n.ensures ∙ o.operands.ok.0) c.if-n-eq0.true;
+      step = pop_empty m c.args.op c.len-n.result (op_model o) c.in_ok-op.ensures.value (c.len-n.ensures ∙ o.operands.ok.0) c.if-n-eq0.true;
       lasts = lasts_refl m;
     }
 
 pub returns : goal.returns
 returns c =
-    let o = c.in-ok-op.field-0.now in
+    let o = c.in_ok-op.field-0.now in
     record {
-      step = pop_is (model_of c.args.book.now) c.args.op c.len-n.result (op_model o) c.in-ok-op.ensures.value (c.len-n.ensures ∙ o.operands.ok.0) c.if-n-eq0.false ∙ c.remove-operand.ensures.step;
-      lasts = c.remove-operand.ensures.lasts;
+      step = pop_is (model_of c.args.book.now) c.args.op c.len-n.result (op_model o) c.in_ok-op.ensures.value (c.len-n.ensures ∙ o.operands.ok.0) c.if-n-eq0.false ∙ c.remove_operand.ensures.step;
+      lasts = c.remove_operand.ensures.lasts;
     }
