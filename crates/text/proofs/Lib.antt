@@ -1,3 +1,2 @@
 pub mod Numerals
-pub mod Scans
 pub mod LineWords

@@ -48,7 +48,10 @@ fn reads(rt: &impl Abort, heap: Global, line: &str, says: &str) -> Result<(), Fa
             assert_eq!(rt; says, "", "{}", line);
             Ok(())
         },
-        Err(ReadError::Malformed(problem)) => Err(Fail::new(problem.expected.phrase())).note(line),
+        Err(ReadError::Malformed(problem)) => {
+            let expected = problem.expected.phrase();
+            Err(Fail::new(format_args!("{line}: {expected}")))
+        }
         Err(ReadError::Memory) => Err(Fail::new("no memory")),
     }
 }

@@ -8,4 +8,4 @@ use Rattle.statements.proofs.lists.names.Goals as goal
 pub loop-word-preserved : goal.loop-word-preserved
 loop-word-preserved c =
     let taken = c.in-Some.ensures in
-    more_said name_of Name name_text _ _ (vec_items c.push.new.self) _ _ c.in-Some.word c.in-ok-name.field-0 c.loop-word.invariant taken.takes c.in-ok-name.ensures taken.line c.in-ok-push.ensures.items
+    more_said name_of Name name_text _ _ (vec_items c.push.new.self) _ _ c.in-Some.word c.in_ok-name.field-0 c.loop-word.invariant taken.takes c.in_ok-name.ensures taken.line c.in_ok-push.ensures.items

@@ -3,12 +3,12 @@ use Rattle.text.specs.Reading.{first_of}
 use Rattle.text.proofs.LineWords.{next_none, next_some, next_start}
 use Rattle.text.proofs.cursor.Words.next.Goals as goal
 
-pub returns-in-err-span : goal.returns-in-err-span
-returns-in-err-span c = rw c.from-residual.ensures (let none = next_none _ _ c.in-err-span.ensures in record { line = refl; takes = (none, none) })
+pub returns-in_err-span : goal.returns-in_err-span
+returns-in_err-span c = rw c.from_residual.ensures (let none = next_none _ _ c.in_err-span.ensures in record { line = refl; takes = (none, none) })
 
 pub returns : goal.returns
 returns c =
-    let next = c.in-ok-span.ensures in
+    let next = c.in_ok-span.ensures in
     let first = next_some _ _ _ next in
     record {
       line = refl;
