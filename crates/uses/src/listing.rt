@@ -1,5 +1,5 @@
 // Counting and listing the uses of one value or block, row by row.
-ghost use Rattle.std.specs.Prelude.{◌≡◌, ◌+◌, ◌<◌, ◌≤◌, ◌++◌, length, take, drop, filter, slice_set};
+ghost use Rattle.std.specs.Prelude.{◌≡◌, ◌+◌, ◌<◌, ◌≤◌, ◌++◌, length, take, drop, filter, slice_set, IfOk};
 ghost use Rattle.book.specs.Of.{model_of};
 ghost use Rattle.uses.specs.Listing.{uses_in, uses_from, UseAt, Listing, list_check, Filled};
 
@@ -88,7 +88,7 @@ where
     P::Made: Copy,
     ensures value { result ≡ list_check (uses_from P.UsePlace.places (P.UsePlace.test x) P.UsePlace.made 0 (model_of book.now).ops) (length out.old) }
     ensures list { Filled (uses_from P.UsePlace.places (P.UsePlace.test x) P.UsePlace.made 0 (model_of book.now).ops) out.old out.new result }
-    ensures uses { made result (λ n. Listing (UseAt P.UsePlace.places P.UsePlace.held P.UsePlace.made (model_of book.now).ops x) (take n out.new)) }
+    ensures uses { IfOk result (λ n. Listing (UseAt P.UsePlace.places P.UsePlace.held P.UsePlace.made (model_of book.now).ops x) (take n out.new)) }
 {
     if out.len() < count::<P>(book, x) {
         return Err(Refusal::ListTooShort);

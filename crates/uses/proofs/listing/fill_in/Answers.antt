@@ -12,14 +12,14 @@ pub put-requires : goal.put-requires
 put-requires g c =
     room (g.P.UsePlace.test c.args.x) (g.P.UsePlace.made c.args.op) c.args.out.now c.args.n c.args.places.now c.requires c.loop-p.p-index c.loop-p.out c.loop-p.end c.p-item.result c.holds.result c.loop-p-test.true c.p-item.is c.holds.ensures c.if-holds.true c.loop-p.auto.out c.loop-p.invariant
 
-pub overflow-add-end : goal.overflow-add-end
-overflow-add-end g c =
+pub overflow_add-end : goal.overflow_add-end
+overflow_add-end g c =
     omega (arith, room (g.P.UsePlace.test c.args.x) (g.P.UsePlace.made c.args.op) c.args.out.now c.args.n c.args.places.now c.requires c.loop-p.p-index c.loop-p.out c.loop-p.end c.p-item.result c.holds.result c.loop-p-test.true c.p-item.is c.holds.ensures c.if-holds.true c.loop-p.auto.out c.loop-p.invariant)
 
 pub loop-p-preserved : goal.loop-p-preserved
 loop-p-preserved g c =
     elim c.if-holds.branch [
-      | then-holds w ↦ fill_yes c.args.out.now _ (g.P.UsePlace.test c.args.x) (g.P.UsePlace.made c.args.op) c.args.places.now c.loop-p.p-index c.loop-p.out c.if-holds.out c.loop-p.end c.if-holds.end c.p-item.result c.holds.result w.as-use.result c.loop-p-test.true c.p-item.is c.holds.ensures w.if-holds.true w.as-use.ensures (w.out-is ∙ w.put.ensures) w.end-is
+      | then-holds w ↦ fill_yes c.args.out.now _ (g.P.UsePlace.test c.args.x) (g.P.UsePlace.made c.args.op) c.args.places.now c.loop-p.p-index c.loop-p.out c.if-holds.out c.loop-p.end c.if-holds.end c.p-item.result c.holds.result w.as_use.result c.loop-p-test.true c.p-item.is c.holds.ensures w.if-holds.true w.as_use.ensures (w.out-is ∙ w.put.ensures) w.end-is
           (room (g.P.UsePlace.test c.args.x) (g.P.UsePlace.made c.args.op) c.args.out.now c.args.n c.args.places.now c.requires c.loop-p.p-index c.loop-p.out c.loop-p.end c.p-item.result c.holds.result c.loop-p-test.true c.p-item.is c.holds.ensures w.if-holds.true c.loop-p.auto.out c.loop-p.invariant) c.loop-p.invariant
       | else-holds w ↦ fill_no c.args.out.now _ (g.P.UsePlace.test c.args.x) (g.P.UsePlace.made c.args.op) c.args.places.now c.loop-p.p-index c.loop-p.out c.if-holds.out c.loop-p.end c.if-holds.end c.p-item.result c.holds.result c.loop-p-test.true c.p-item.is c.holds.ensures w.if-holds.false w.out-is w.end-is c.loop-p.invariant
     ]
