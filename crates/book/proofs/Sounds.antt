@@ -1,5 +1,5 @@
 -- What holds of every book, out of its ghost field.
-use Rattle.std.proofs.Common.{◌≡◌, ℕ, ◌≤◌, List, [], sym, refl, subst, arith}
+use Rattle.std.proofs.Common.{◌≡◌, ℕ, ◌≤◌, List, [], sym, subst, arith}
 use mathlib.Core.Logic.{∥∥₁_elim}
 use Rattle.rows.specs.Counts.{listed_ops, placed_ops, listed_blocks, placed_blocks}
 use Rattle.ir.specs.Limits.{limits}

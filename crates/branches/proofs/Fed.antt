@@ -1,24 +1,19 @@
 -- What an accepted branch does: each block gets what its arguments ask for.
-use Rattle.std.proofs.Common.{◌≡◌, ℕ, zero, suc, ◌+◌, ◌-◌, ◌<◌, ◌≤◌, Bool, true, false, cond, eqb, List, [], ◌∷◌, length, get_or, Some, None, Ok, Err, Option, Result, sym, refl, ap, ◌∙◌, subst, arith}
+use Rattle.std.proofs.Common.{◌≡◌, ℕ, zero, suc, ◌+◌, ◌<◌, ◌≤◌, Bool, true, false, cond, eqb, List, [], ◌∷◌, length, get_or, Some, Ok, Err, Result, sym, refl, ap, ◌∙◌, subst, arith}
 use Rattle.std.specs.List.{between, slice_get}
 use Rattle.std.proofs.lemmas.List.Edits.{length-between, get_or-between}
 use Rattle.std.proofs.lemmas.List.{get_or-map, length-map}
 use Rattle.std.proofs.lemmas.Option.{slice_get-get_or}
-use Rattle.std.proofs.lemmas.Bool.{eqb-true, cases_Bool}
+use Rattle.std.proofs.lemmas.Bool.{eqb-true}
 use Rattle.ir.specs.Limits.{limits}
-use Rattle.ir.specs.declared.refusal.Refusal.{Refusal}
 use Rattle.ir.specs.declared.value.Definition.{Definition}
 use Rattle.ir.specs.declared.value.Operand.{Operand}
 use Rattle.ir.specs.declared.value.Successor.{Successor}
 use Rattle.model.specs.Model.{OpM, BlockM, BookM, type_of}
-use Rattle.model.specs.Checks.{op_row}
 use Rattle.model.specs.Sound.{Sound}
 use Rattle.model.proofs.Nths.{none_some, nth_below}
-use Rattle.kinds.specs.declared.fault.Fault.{Fault}
-use Rattle.kinds.specs.declared.fault.Verdict.{Verdict}
-use Rattle.kinds.specs.declared.fault.Verdict.TheVariants.{Accepted, Rejected}
-use Rattle.kinds.specs.First.{Check, both, first_of}
-use Rattle.kinds.specs.Page.{Page, page, op_at, block_at, no_op, no_block, no_successor, successor_page}
+use Rattle.kinds.specs.First.{Check, both}
+use Rattle.kinds.specs.Page.{page, op_at, block_at, no_op, no_block, no_successor, successor_page}
 use Rattle.kinds.specs.Family.{Branching, BranchLaws, Accepted as LayoutAccepted}
 use Rattle.kinds.proofs.Firsts.{first_each}
 use Rattle.branches.specs.Branch.{types_check, part_check, successor_check, successors_check, layout_check, branch_check}

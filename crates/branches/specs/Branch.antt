@@ -1,5 +1,5 @@
 -- What verification says of a branch: the layout, then each successor in order, the count before each type; the first fault wins.
-use Rattle.std.specs.Prelude.{ℕ, ◌+◌, Bool, cond, List, [], ◌∷◌, length, Ok, Err, Result, ◌==◌, slice_index_or}
+use Rattle.std.specs.Prelude.{ℕ, ◌+◌, cond, List, [], ◌∷◌, length, Ok, Err, Result, ◌==◌, slice_index_or}
 use Rattle.std.specs.List.{between}
 use Rattle.ir.specs.declared.value.Definition.{Definition}
 use Rattle.ir.specs.declared.value.Operand.{Operand}

@@ -9,7 +9,7 @@ use std::{env, fs, io};
 
 mod board;
 mod failures;
-mod rows;
+mod row_lines;
 mod words;
 
 // the file that the argument names, or else standard input
@@ -27,9 +27,9 @@ fn text(rt: &HostRuntime) -> io::Result<Vec<u8>> {
 }
 
 fn show(rt: &HostRuntime, course: &Course) -> io::Result<bool> {
-    rows::show_types(rt, &course.book)?;
+    row_lines::show_types(rt, &course.book)?;
     for entry in course.names.entries() {
-        rows::show_row(rt, &course.book, entry)?;
+        row_lines::show_row(rt, &course.book, entry)?;
     }
     board::show_board(rt, course)
 }

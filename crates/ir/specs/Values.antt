@@ -1,5 +1,5 @@
 -- When two values are one.
-use Rattle.std.specs.Prelude.{Bool, true, false, ◌&&◌, ◌==◌}
+use Rattle.std.specs.Prelude.{Bool, false, ◌&&◌, ◌==◌}
 use Rattle.ir.specs.declared.value.DefiningEntity.{DefiningEntity}
 use Rattle.ir.specs.declared.value.DefiningEntity.TheVariants.{Op, Block}
 use Rattle.ir.specs.declared.value.Value.{Value}

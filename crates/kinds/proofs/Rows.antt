@@ -5,7 +5,7 @@ use Rattle.std.proofs.lemmas.List.{get_or-map, length-map}
 use Rattle.std.proofs.lemmas.Option.{slice_get-get_or}
 use Rattle.ir.specs.Limits.{limits}
 use Rattle.ir.specs.declared.value.Successor.{Successor}
-use Rattle.model.specs.Model.{OpM, BookM}
+use Rattle.model.specs.Model.{BookM}
 use Rattle.model.specs.Sound.{Sound}
 use Rattle.kinds.specs.Page.{page, op_at, block_at, no_op, no_successor, successor_page}
 

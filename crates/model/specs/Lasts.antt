@@ -5,7 +5,7 @@ use Rattle.ir.specs.declared.value.DefiningEntity.{DefiningEntity}
 use Rattle.ir.specs.declared.value.Definition.{Definition}
 use Rattle.ir.specs.declared.value.Operand.{Operand}
 use Rattle.ir.specs.declared.value.Successor.{Successor}
-use Rattle.model.specs.Model.{BodyM, OpM, BlockM, RegionM, BookM, defined_by}
+use Rattle.model.specs.Model.{OpM, BlockM, RegionM, BookM, defined_by}
 
 -- what stands somewhere stays there
 abbrev pub Stays : Option ℕ → Option ℕ → Type 0

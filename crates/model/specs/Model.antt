@@ -1,5 +1,5 @@
 -- The model book: records of plain lists. Rows are numbered from 0 in the order of their making; the M is for model.
-use Rattle.std.specs.Prelude.{ℕ, ◌+◌, Bool, true, false, cond, List, [], ◌∷◌, ◌++◌, length, Some, None, Option, ◌==◌}
+use Rattle.std.specs.Prelude.{ℕ, ◌+◌, cond, List, [], ◌∷◌, ◌++◌, Some, None, Option, ◌==◌}
 use Rattle.std.specs.List.{range_with_len, slice_get}
 use Rattle.ir.specs.declared.location.Location.{Location}
 use Rattle.ir.specs.declared.value.DefiningEntity.{DefiningEntity}

@@ -1,5 +1,5 @@
 -- What each call makes of the model book: its checks in rising order of their numbers, then its answer and the book after it.
-use Rattle.std.specs.Prelude.{ℕ, ◌+◌, ◌-◌, Bool, not, ◌&&◌, ltb, List, [], ◌∷◌, ◌++◌, length, replicate, is_some, Ok, Err, Option, Result, nat_le, nat_lt, slice_set}
+use Rattle.std.specs.Prelude.{ℕ, ◌+◌, not, ◌&&◌, ltb, List, [], ◌∷◌, ◌++◌, length, replicate, is_some, Ok, Err, Option, Result, nat_le, nat_lt, slice_set}
 use Rattle.std.specs.List.{insert, remove}
 use Rattle.ir.specs.Limits.{Limits}
 use Rattle.ir.specs.declared.location.Location.{Location}
@@ -9,7 +9,7 @@ use Rattle.ir.specs.declared.value.Value.{Value}
 use Rattle.ir.specs.declared.value.Operand.{Operand}
 use Rattle.ir.specs.declared.value.Use.{Use}
 use Rattle.ir.specs.declared.value.Pushed.{Pushed}
-use Rattle.model.specs.Model.{OpM, BookM, empty, new_op, new_block, new_region, with_operands, op_in, with_op, block_in, with_block}
+use Rattle.model.specs.Model.{OpM, BookM, new_op, new_block, new_region, with_operands, op_in, with_op, block_in, with_block}
 use Rattle.model.specs.Checks.{and_then, demand, map_ok, every, edit, steps, op_row, block_row, region_row, place, operand, operands_of}
 
 -- ---- making: 3

@@ -2,5 +2,5 @@
 // a page has, page/own.rt and page/inner.rt read its parts.
 #![tactic(auto)]
 
+mod by_number;
 pub mod page;
-mod rows;

@@ -6,8 +6,8 @@ ghost use Rattle.std.specs.List.{slice_get};
 ghost use Rattle.pages.specs.Page.{region_page, block_page, inner_page, region_of, block_of, last_of};
 ghost use Rattle.pages.specs.Seen.{seen, book_of};
 
+use crate::by_number::{block_args, block_ops, op_kind, op_operands, place, region_blocks};
 use crate::page::OpPage;
-use crate::rows::{block_args, block_ops, op_kind, op_operands, place, region_blocks};
 use ir::value::{Definition, Operand};
 
 impl<'a> OpPage<'a> {

@@ -8,8 +8,8 @@ ghost use Rattle.book.specs.Of.{model_of};
 ghost use Rattle.pages.specs.Page.{page, op_at, successor_page, region_page, successor_of};
 ghost use Rattle.pages.specs.Seen.{seen, book_of};
 
+use crate::by_number::{block_args, place};
 use crate::page::OpPage;
-use crate::rows::{block_args, place};
 use book::book::Book;
 use ir::refusal::Refusal;
 use ir::value::{Definition, Operand, Successor};

@@ -1,4 +1,4 @@
-use Rattle.std.proofs.Common.{length, vec_items, arith}
+use Rattle.std.proofs.Common.{vec_items, arith}
 use Rattle.std.proofs.lemmas.List.{length-map}
 use Rattle.rows.specs.Of.{block_model}
 use Rattle.kinds.specs.Page.{no_block}

@@ -1,6 +1,6 @@
-use Rattle.std.proofs.Common.{map, length, unwrap_or, sym, ap, ◌∙◌, rules}
+use Rattle.std.proofs.Common.{map, length, unwrap_or, sym, ap, ◌∙◌}
 use Rattle.std.proofs.lemmas.List.{length-map}
-use Rattle.pages.specs.Page.{RegionP, no_region_page, block_page}
+use Rattle.pages.specs.Page.{no_region_page, block_page}
 use Rattle.pages.specs.Seen.{book_of}
 use Rattle.pages.proofs.page.OpPage.block_rows.Goals as goal
 

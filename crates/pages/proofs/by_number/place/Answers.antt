@@ -2,7 +2,7 @@ use Rattle.std.proofs.Common.{refl, ap, ◌∙◌}
 use Rattle.std.specs.List.{slice_get}
 use Rattle.std.proofs.lemmas.List.{map-id}
 use Rattle.rows.proofs.Read.{get_row}
-use Rattle.pages.proofs.rows.place.Goals as goal
+use Rattle.pages.proofs.by_number.place.Goals as goal
 
 pub returns : goal.returns
 returns g c =
