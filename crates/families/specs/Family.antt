@@ -3,7 +3,7 @@
 use Rattle.std.specs.Prelude.{◌≡◌, ℕ, ◌+◌, ◌-◌, ◌<◌, ◌≤◌, Bool, true, ◌⊎◌, List, length, take, Some, Ok, sum, Option, Result, ◌≢◌, slice_index}
 use Rattle.std.specs.List.{insert, remove}
 use Rattle.ir.specs.Limits.{Limits}
-use Rattle.ir.specs.declared.range.OperandRange.{OperandRange}
+use Rattle.families.specs.declared.range.OperandRange.{OperandRange}
 use Rattle.ir.specs.declared.value.Operand.{Operand}
 use Rattle.pages.specs.Page.{Page}
 use Rattle.families.specs.Edited.{edited, resized}

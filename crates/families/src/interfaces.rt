@@ -8,7 +8,7 @@ ghost use Rattle.families.specs.Family.{Segmenting, SegmentLaws, Branching, Acce
 ghost use Rattle.families.specs.Edges.{Regional, EdgesAccepted, RegionLaws, ends_of, edge_at};
 
 use crate::edge::{EdgeEnds, Flow};
-use ir::range::OperandRange;
+use crate::range::OperandRange;
 use ir::value::Use;
 use pages::page::OpPage;
 

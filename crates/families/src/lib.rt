@@ -3,4 +3,7 @@
 #![tactic(auto)]
 
 pub mod edge;
+pub mod fault;
 pub mod interfaces;
+pub mod limits;
+pub mod range;

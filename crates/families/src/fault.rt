@@ -1,5 +1,5 @@
 // Why an operation is not accepted: one enum for every check, in the order of the checks.
-use crate::location::Location;
+use ir::location::Location;
 
 // Types are handles of the book's type list.
 #[derive(Clone, Copy)]
