@@ -3,7 +3,10 @@
 ghost use Rattle.std.specs.Prelude.{◌≡◌};
 ghost use Rattle.ir.specs.Numbers.{number_of};
 
-#[derive(Clone, Copy)]
+use std::error::Error;
+use std::fmt;
+
+#[derive(Clone, Copy, Debug, PartialEq, Eq)]
 pub enum Refusal {
     // 1: no such row or type
     NoRow,
@@ -22,7 +25,7 @@ pub enum Refusal {
     // 8: no segment sizes are set
     NoSizes,
     // 9: the layout is not accepted; the family's code
-    Layout(u8),
+    Layout(LayoutCode),
     // 10: index out of range, also inside a segment
     OutOfRange,
     // 11: nothing to pop
@@ -39,7 +42,19 @@ pub enum Refusal {
     ListTooShort,
 }
 
+// The number of a reason that a family of kinds has for not accepting a layout. Each family has reasons of its own, and a book tells
+// them by a byte.
+#[derive(Clone, Copy, Debug, PartialEq, Eq)]
+pub struct LayoutCode(pub u8);
+
+impl fmt::Display for LayoutCode {
+    fn fmt<W: fmt::Write>(&self, f: &mut fmt::Formatter<W>) -> fmt::Result {
+        write!(f, "{}", self.0)
+    }
+}
+
 impl Refusal {
+    // a method and no conversion, since a refusal may carry a value that its number does not tell
     pub fn number(self) -> u8
         ensures { result ≡ number_of self }
     {
@@ -63,3 +78,30 @@ impl Refusal {
         }
     }
 }
+
+// What the refusal means, for whoever reads what a program prints.
+impl fmt::Display for Refusal {
+    fn fmt<W: fmt::Write>(&self, f: &mut fmt::Formatter<W>) -> fmt::Result {
+        f.write_str(match self {
+            Refusal::NoRow => "no such row or type",
+            Refusal::NoValue(_) => "no such value, or no row that defines it",
+            Refusal::OverCapacity =>
+                "more is handed in than one operation, block, type list, size or chart table may have",
+            Refusal::RangeBackward => "a range whose last index lies below its first",
+            Refusal::ChartRule => "chart rows outside their rule",
+            Refusal::NoInterface => "the kind lacks the interface",
+            Refusal::NoRowsLeft => "too few rows left",
+            Refusal::NoSizes => "no segment sizes are set",
+            Refusal::Layout(_) => "the layout is not accepted",
+            Refusal::OutOfRange => "index out of range",
+            Refusal::NothingToPop => "nothing to pop",
+            Refusal::PastOperands => "the segment lies past the operands",
+            Refusal::OperandsFull => "the operation has all the operands that it may have",
+            Refusal::AlreadyPlaced => "already placed",
+            Refusal::UsesSpent => "the book has made all the uses that it may make",
+            Refusal::ListTooShort => "the list is shorter than the answer",
+        })
+    }
+}
+
+impl Error for Refusal {}

@@ -1,8 +1,7 @@
 -- Creating a block or an operation.
 use Rattle.std.proofs.Common.{◌≡◌, ℕ, ◌+◌, ◌<◌, ◌≤◌, ◌⊎◌, List, [], ◌∷◌, map, length, replicate, Some, Ok, Option, sym, refl, ap, ◌∙◌, subst, inl, inr, ⊎_elim, arith}
-use lib.ListN.{length-replicate}
 use Rattle.std.specs.List.{slice_get}
-use Rattle.std.proofs.lemmas.List.{length_push, length-append, length-map, map_push, map-append}
+use Rattle.std.proofs.lemmas.List.{length_push, length-append, length-replicate, length-map, map_push, map-append}
 use Rattle.std.proofs.lemmas.List.FromFn.{length-range_with_len}
 use Rattle.ir.specs.Limits.{Limits}
 use Rattle.ir.specs.declared.location.Location.{Location}

@@ -1,8 +1,8 @@
 -- Lists and parents stay nested as rows are made and placed.
 use Rattle.std.proofs.Common.{◌≡◌, ℕ, true, ◌⊎◌, List, [], ◌∷◌, ◌++◌, length, replicate, Some, None, Option, sym, ap, ◌∙◌, subst, ⊎_elim, arith}
-use lib.ListN.{length-replicate}
 use Rattle.std.specs.List.{range_with_len, slice_get}
 use Rattle.std.proofs.lemmas.Bool.{cases_eq}
+use Rattle.std.proofs.lemmas.List.{length-replicate}
 use Rattle.model.specs.Checks.{edit}
 use Rattle.model.specs.Sound.{Nested, is_in, list_at}
 use Rattle.model.proofs.Nths.{none_some, some_is, nth_below, nth_left, nth_right, nth_append, nth_push, nth_end, nth_edit, nth_edit_same, nth_edit_other}

@@ -1,25 +1,18 @@
 -- What stands at a place of a list that was made longer, changed at one place, or mapped.
-use Rattle.std.proofs.Common.{◌≡◌, ℕ, zero, suc, ◌+◌, ◌<◌, ◌⊎◌, List, [], ◌∷◌, ◌++◌, map, length, Some, None, Option, sym, refl, ap, subst, inl, inr, ⊎_elim, arith}
+use Rattle.std.proofs.Common.{◌≡◌, ℕ, zero, suc, ◌+◌, ◌⊎◌, List, [], ◌∷◌, ◌++◌, map, length, Some, None, Option, sym, refl, ap, ◌∙◌, subst, inl, inr, ⊎_elim, arith}
 use Rattle.std.specs.List.{slice_get}
+use Rattle.std.specs.Option.{option_map}
+pub use Rattle.std.proofs.lemmas.Option.{slice_get_within as nth_below}
+use Rattle.std.proofs.lemmas.Option.{none-some, slice_get-map}
 use Rattle.model.specs.Checks.{edit}
 
 pub none_some : {X : Type 0} {x : X} → ◌≡◌ {A = Option X} None (Some x) → ⊥
-none_some {X} {x} h = let z : ◌≡◌ {A = ℕ} 0 1 = cc in omega arith
+none_some {X} {x} h = none-some x h
 
 pub some_is : {X : Type 0} {x y : X} {o : Option X} → o ≡ Some x → o ≡ Some y → x ≡ y
 some_is p q = cc
 
 module _ {X : Type 0} where
-  pub nth_below : (xs : List X) (i : ℕ) (x : X) → slice_get xs i ≡ Some x → i < length xs
-  nth_below [] i x h = absurd (none_some h)
-  nth_below (y ∷ ys) zero x h = omega arith
-  nth_below (y ∷ ys) (suc i) x h = let l = nth_below ys i x h in omega arith
-
-  pub nth_there : (xs : List X) (i : ℕ) → i < length xs → (x : X) × (slice_get xs i ≡ Some x)
-  nth_there [] i h = absurd (omega arith)
-  nth_there (y ∷ ys) zero h = (y, refl)
-  nth_there (y ∷ ys) (suc i) h = nth_there ys i (omega arith)
-
   -- ---- longer lists
 
   pub nth_left : (xs ys : List X) (i : ℕ) (x : X) → slice_get xs i ≡ Some x → slice_get (xs ++ ys) i ≡ Some x
@@ -37,7 +30,7 @@ module _ {X : Type 0} where
   nth_append (z ∷ zs) ys zero x h = inl h
   nth_append (z ∷ zs) ys (suc i) x h = ⊎_elim inl (λ p. inr (p.0, omega (arith, p.1), p.2)) (nth_append zs ys i x h)
 
-  pub nth_one : (y : X) (i : ℕ) (x : X) → slice_get (y ∷ []) i ≡ Some x → (i ≡ 0) × (x ≡ y)
+  nth_one : (y : X) (i : ℕ) (x : X) → slice_get (y ∷ []) i ≡ Some x → (i ≡ 0) × (x ≡ y)
   nth_one y zero x h = (refl, cc)
   nth_one y (suc i) x h = absurd (none_some h)
 
@@ -95,9 +88,7 @@ module _ {X : Type 0} (P : X → Type 0) (xs : List X) (h : (i : ℕ) (x : X) �
 
 module _ {X Y : Type 0} (f : X → Y) where
   pub nth_mapped : (xs : List X) (i : ℕ) (x : X) → slice_get xs i ≡ Some x → slice_get (map f xs) i ≡ Some (f x)
-  nth_mapped [] i x h = absurd (none_some h)
-  nth_mapped (y ∷ ys) zero x h = cc
-  nth_mapped (y ∷ ys) (suc i) x h = nth_mapped ys i x h
+  nth_mapped xs i x h = slice_get-map f xs i ∙ ap (option_map f) h
 
   pub nth_map : (xs : List X) (i : ℕ) (y : Y) → slice_get (map f xs) i ≡ Some y → (x : X) × (slice_get xs i ≡ Some x) × (y ≡ f x)
   nth_map [] i y h = absurd (none_some h)

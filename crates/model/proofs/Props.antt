@@ -1,25 +1,12 @@
 -- The records of Sound are propositions: two proofs of one are the same.
-use Rattle.std.proofs.Common.{◌≡◌, ℕ, Bool, ◌⊎◌, List, Some, None, Option, inl, inr}
+use Rattle.std.proofs.Common.{◌≡◌, ℕ, Bool, List, Option}
 use mathlib.Core.HLevel.{×_prop, ⊥_prop}
 use native.Mathlib.Bridge.{le_prop}
 use denote.Struct.Props.{≡_prop}
-use base.Stored.{Coded, coded_ℕ, coded_bool, coded_unit, coded⊎, coded_via}
+use Rattle.std.specs.Coded.{coded_ℕ, coded_bool, coded_option}
 use Rattle.ir.specs.Limits.{Limits}
 use Rattle.model.specs.Model.{BodyM, BookM}
 use Rattle.model.specs.Sound.{Nested, Few, Sound}
-
-abbrev as_sum : {A : Type 0} → Option A → Unit {0} ⊎ A
-as_sum None = inl tt
-as_sum (Some x) = inr x
-
-as_sum_inj : {A : Type 0} (x y : Option A) → as_sum x ≡ as_sum y → x ≡ y
-as_sum_inj None None e = cc
-as_sum_inj None (Some y) e = cc
-as_sum_inj (Some x) None e = cc
-as_sum_inj (Some x) (Some y) e = cc
-
-abbrev coded_option : {A : Type 0} → Coded A → Coded (Option A)
-coded_option c = coded_via (coded⊎ coded_unit c) as_sum as_sum_inj
 
 -- what makes one proof of the other
 number : {x y : ℕ} → IsProp (x ≡ y)
@@ -34,7 +21,7 @@ found {x} {y} = ≡_prop (coded_option coded_ℕ) x y
 stood : {x y : Option (Option ℕ)} → IsProp (x ≡ y)
 stood {x} {y} = ≡_prop (coded_option (coded_option coded_ℕ)) x y
 
-pub nested_prop : (ls : List (List ℕ)) (ps : List (Option ℕ)) (a b : Nested ls ps) → a ≡ b
+nested_prop : (ls : List (List ℕ)) (ps : List (Option ℕ)) (a b : Nested ls ps) → a ≡ b
 nested_prop ls ps a b =
     λ i. record {
       stands = λ p k c xs e f. stood (a.stands p k c xs e f) (b.stands p k c xs e f) i;
@@ -42,7 +29,7 @@ nested_prop ls ps a b =
       once = λ p k l c xs e f g. number (a.once p k l c xs e f g) (b.once p k l c xs e f g) i;
     }
 
-pub few_prop : (L : Limits) (o : BodyM) (a b : Few L o) → a ≡ b
+few_prop : (L : Limits) (o : BodyM) (a b : Few L o) → a ≡ b
 few_prop L o a b =
     λ i. record {
       results = le_prop a.results b.results i;

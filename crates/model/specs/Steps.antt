@@ -1,7 +1,8 @@
 -- What each call makes of the model book: its checks in rising order of their numbers, then its answer and the book after it.
-use Rattle.std.specs.Prelude.{ℕ, ◌+◌, not, ◌&&◌, ltb, List, [], ◌∷◌, ◌++◌, length, replicate, is_some, Ok, Err, Option, Result, nat_le, nat_lt, slice_set}
+use Rattle.std.specs.Prelude.{ℕ, ◌+◌, not, ◌&&◌, List, [], ◌∷◌, ◌++◌, length, replicate, is_some, Ok, Err, Option, Result, nat_le, nat_lt, slice_set}
 use Rattle.std.specs.List.{insert, remove}
 use Rattle.ir.specs.Limits.{Limits}
+use Rattle.ir.specs.Uses.{use_in}
 use Rattle.ir.specs.declared.location.Location.{Location}
 use Rattle.ir.specs.declared.refusal.Refusal.{Refusal}
 use Rattle.ir.specs.declared.refusal.Refusal.TheVariants.{NoRow, OverCapacity, NoRowsLeft, OutOfRange, NothingToPop, OperandsFull, AlreadyPlaced, UsesSpent}
@@ -22,8 +23,8 @@ make_check L types = demand (nat_le (length types) L.types) OverCapacity
 -- types and successor blocks that are there: 1
 abbrev pub rows_check : BookM → List ℕ → List ℕ → Result (Unit {0}) Refusal
 rows_check m types blocks =
-    and_then (demand (every (λ t. ltb t (length m.types)) types) NoRow) (λ _.
-    demand (every (λ b. ltb b (length m.blocks)) blocks) NoRow)
+    and_then (demand (every (λ t. nat_lt t (length m.types)) types) NoRow) (λ _.
+    demand (every (λ b. nat_lt b (length m.blocks)) blocks) NoRow)
 
 -- no more of each than one operation may have: 3
 abbrev pub few_check : Limits → ℕ → ℕ → ℕ → ℕ → Result (Unit {0}) Refusal
@@ -63,7 +64,7 @@ create_step L m kind loc sizes types values blocks n =
 -- 1, 3, 7
 abbrev pub block_check : Limits → BookM → List ℕ → Result (Unit {0}) Refusal
 block_check L m types =
-    and_then (demand (every (λ t. ltb t (length m.types)) types) NoRow) (λ _.
+    and_then (demand (every (λ t. nat_lt t (length m.types)) types) NoRow) (λ _.
     and_then (demand (nat_le (length types) L.arguments) OverCapacity) (λ _.
     demand (nat_lt (length m.blocks) L.blocks) NoRowsLeft))
 
@@ -138,8 +139,8 @@ one_more_check L m o =
     and_then (demand (nat_lt (length o.body.operands) L.operands) OperandsFull) (λ _.
     demand (nat_lt m.uses L.uses) UsesSpent)
 
-abbrev pub use_of : ℕ → Operand → Use
-use_of i x = record { user_op = i; use_uid = x.use_uid }
+abbrev pub use_of : ℕ → Operand → Use Operand
+use_of i x = use_in i x.use_uid
 
 -- the operand place to be put in: 1, 2, 10, 13, 15
 abbrev pub insert_check : Limits → BookM → ℕ → ℕ → Value → Result Operand Refusal
@@ -149,7 +150,7 @@ insert_check L m i k v =
     and_then (demand (nat_le k (length o.body.operands)) OutOfRange) (λ _.
     map_ok (λ _. x) (one_more_check L m o))))
 
-abbrev pub insert_step : Limits → BookM → ℕ → ℕ → Value → Result Use Refusal × BookM
+abbrev pub insert_step : Limits → BookM → ℕ → ℕ → Value → Result (Use Operand) Refusal × BookM
 insert_step L m i k v = steps (insert_check L m i k v) (use_of i) (λ x. edited m i (m.uses + 1) (λ xs. insert xs k x)) m
 
 -- the operand place to be put last, with its index: 1, 2, 13, 15
@@ -173,7 +174,7 @@ replace_check L m i k v =
     and_then (demand (nat_lt k (length o.body.operands)) OutOfRange) (λ _.
     map_ok (λ _. x) (demand (nat_lt m.uses L.uses) UsesSpent))))
 
-abbrev pub replace_step : Limits → BookM → ℕ → ℕ → Value → Result Use Refusal × BookM
+abbrev pub replace_step : Limits → BookM → ℕ → ℕ → Value → Result (Use Operand) Refusal × BookM
 replace_step L m i k v = steps (replace_check L m i k v) (use_of i) (λ x. edited m i (m.uses + 1) (λ xs. slice_set xs k x)) m
 
 -- the operand place that is to go: 1, 10
