@@ -22,11 +22,11 @@ pub lasts_at : (m n k : BookM) → n ≡ k → Lasts m k → Lasts m n
 lasts_at m n k e l = subst (Lasts m) (sym e) l
 
 -- the book with one operation written, where y is g of x on the model, and n uses made in all
-pub row_changed : (b : Book) (i n : ℕ) (x y : Operation) (g : OpM → OpM) → x ≡ get_or (vec_items b.ops) i x → op_model y ≡ g (op_model x) →
-    parts (vec_items b.types) (set (vec_items b.ops) i y) (vec_items b.blocks) (vec_items b.regions) b.next_value n ≡ changed (model_of b) i n g
+pub row_changed : (b : Book) (i n : ℕ) (x y : Operation) (g : OpM → OpM) → x ≡ get_or (vec_items b.ops.rows) i x → op_model y ≡ g (op_model x) →
+    parts (vec_items b.types) (set (vec_items b.ops.rows) i y) (vec_items b.blocks.rows) (vec_items b.regions.rows) b.next_value n ≡ changed (model_of b) i n g
 row_changed b i n x y g e h =
-    ap (λ (xs : List OpM). record { types = vec_items b.types; ops = xs; blocks = map block_model (vec_items b.blocks); regions = map region_model (vec_items b.regions); values = b.next_value; uses = n })
-    (edit_row op_model g (vec_items b.ops) i x y e h)
+    ap (λ (xs : List OpM). record { types = vec_items b.types; ops = xs; blocks = map block_model (vec_items b.blocks.rows); regions = map region_model (vec_items b.regions.rows); values = b.next_value; uses = n })
+    (edit_row op_model g (vec_items b.ops.rows) i x y e h)
 
 -- ---- rows that stand in lists of other rows: operations in blocks, blocks in regions
 
@@ -51,6 +51,6 @@ module _ {C P : Type 0} (stands : C → ℕ) (count : P → ℕ) (cs : List C) (
   listed_fit k p q h e s = omega (arith, fit, sum_same count ps k p q h e s)
 
 -- an operation that is written and stands where it stood
-pub op_fit : (b : Book) (i : ℕ) (x y : Operation) → i < vec_len b.ops → x ≡ get_or (vec_items b.ops) i x → y.parent ≡ x.parent →
-    (listed_ops (vec_items b.blocks) ≤ placed_ops (set (vec_items b.ops) i y)) × (listed_blocks (vec_items b.regions) ≤ placed_blocks (vec_items b.blocks))
-op_fit b i x y h e p = (stood_fit op_standing op_count (vec_items b.ops) (vec_items b.blocks) b.fit.0 i x y (omega (arith, b.ops.ok.0)) e (ap standing p), b.fit.1)
+pub op_fit : (b : Book) (i : ℕ) (x y : Operation) → i < vec_len b.ops.rows → x ≡ get_or (vec_items b.ops.rows) i x → y.parent ≡ x.parent →
+    (listed_ops (vec_items b.blocks.rows) ≤ placed_ops (set (vec_items b.ops.rows) i y)) × (listed_blocks (vec_items b.regions.rows) ≤ placed_blocks (vec_items b.blocks.rows))
+op_fit b i x y h e p = (stood_fit op_standing op_count (vec_items b.ops.rows) (vec_items b.blocks.rows) b.fit.0 i x y (omega (arith, b.ops.rows.ok.0)) e (ap standing p), b.fit.1)

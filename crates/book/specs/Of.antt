@@ -10,7 +10,7 @@ use Rattle.book.specs.Parts.{parts}
 
 -- its rows in use, and the numbers that come next
 abbrev pub model_of : Book → BookM
-model_of b = parts (vec_items b.types) (vec_items b.ops) (vec_items b.blocks) (vec_items b.regions) b.next_value b.next_use
+model_of b = parts (vec_items b.types) (vec_items b.ops.rows) (vec_items b.blocks.rows) (vec_items b.regions.rows) b.next_value b.next_use
 
 -- an empty book; or the refusal, where there are too many types; or else want of memory
 abbrev pub Makes : List ℕ → Result Book Unmade → Type 0

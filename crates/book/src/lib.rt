@@ -5,4 +5,5 @@
 pub mod book;
 mod lookup;
 mod making;
+pub mod table;
 pub mod unmade;

@@ -1,4 +1,5 @@
-// Finding rows and values. A value is found only if the very row that it names defines its number.
+// Finding rows and values. A value is found only if the very row that it names defines its number. The readers of the three tables are
+// one expression each, so a trait over the tables would be longer.
 ghost use Rattle.std.specs.Prelude.{◌≡◌, ◌<◌, length, IfOk, vec_len, slice_index_or};
 ghost use Rattle.ir.specs.Limits.{limits};
 ghost use Rattle.model.specs.Model.{type_of};
@@ -29,56 +30,47 @@ impl Book {
 
     pub fn num_ops(&self) -> usize
         ensures rows { result ≡ length (model_of self.now).ops }
-        ensures len { result ≡ vec_len self.now.ops }
+        ensures len { result ≡ vec_len self.now.ops.rows }
     {
-        self.ops.len()
+        self.ops.rows.len()
     }
 
     pub fn num_blocks(&self) -> usize
         ensures rows { result ≡ length (model_of self.now).blocks }
-        ensures len { result ≡ vec_len self.now.blocks }
+        ensures len { result ≡ vec_len self.now.blocks.rows }
     {
-        self.blocks.len()
+        self.blocks.rows.len()
     }
 
     pub fn num_regions(&self) -> usize
         ensures rows { result ≡ length (model_of self.now).regions }
-        ensures len { result ≡ vec_len self.now.regions }
+        ensures len { result ≡ vec_len self.now.regions.rows }
     {
-        self.regions.len()
+        self.regions.rows.len()
     }
 
     // the operation i, or refusal 1
     pub fn op(&self, i: usize) -> Result<&Operation, Refusal>
         ensures value { map_ok (λ o. op_model o.now) result ≡ op_row (model_of self.now) i }
-        ensures there { IfOk result (λ o. (i < vec_len self.now.ops) × (o.now ≡ slice_index_or self.now.ops.items i o.now)) }
+        ensures there { IfOk result (λ o. (i < vec_len self.now.ops.rows) × (o.now ≡ slice_index_or self.now.ops.rows.items i o.now)) }
     {
-        match self.ops.get(i) {
-            Some(o) => Ok(o),
-            None => Err(Refusal::NoRow),
-        }
+        self.ops.rows.get(i).ok_or(Refusal::NoRow)
     }
 
     // the block b, or refusal 1
     pub fn block(&self, b: usize) -> Result<&BasicBlock, Refusal>
         ensures value { map_ok (λ x. block_model x.now) result ≡ block_row (model_of self.now) b }
-        ensures there { IfOk result (λ x. (b < vec_len self.now.blocks) × (x.now ≡ slice_index_or self.now.blocks.items b x.now)) }
+        ensures there { IfOk result (λ x. (b < vec_len self.now.blocks.rows) × (x.now ≡ slice_index_or self.now.blocks.rows.items b x.now)) }
     {
-        match self.blocks.get(b) {
-            Some(x) => Ok(x),
-            None => Err(Refusal::NoRow),
-        }
+        self.blocks.rows.get(b).ok_or(Refusal::NoRow)
     }
 
     // the region r, or refusal 1
     pub fn region(&self, r: usize) -> Result<&Region, Refusal>
         ensures value { map_ok (λ x. region_model x.now) result ≡ region_row (model_of self.now) r }
-        ensures there { IfOk result (λ x. (r < vec_len self.now.regions) × (x.now ≡ slice_index_or self.now.regions.items r x.now)) }
+        ensures there { IfOk result (λ x. (r < vec_len self.now.regions.rows) × (x.now ≡ slice_index_or self.now.regions.rows.items r x.now)) }
     {
-        match self.regions.get(r) {
-            Some(x) => Ok(x),
-            None => Err(Refusal::NoRow),
-        }
+        self.regions.rows.get(r).ok_or(Refusal::NoRow)
     }
 
     // the type of a value, where its row defines it
@@ -86,14 +78,8 @@ impl Book {
         ensures { result ≡ type_of (model_of self.now) v }
     {
         match v.defining_entity {
-            DefiningEntity::Op(i) => match self.op(i) {
-                Ok(o) => find_type(&o.results, v.val_uid),
-                Err(_) => None,
-            },
-            DefiningEntity::Block(b) => match self.block(b) {
-                Ok(x) => find_type(&x.args, v.val_uid),
-                Err(_) => None,
-            },
+            DefiningEntity::Op(i) => find_type(&self.op(i).ok()?.results, v.val_uid),
+            DefiningEntity::Block(b) => find_type(&self.block(b).ok()?.args, v.val_uid),
         }
     }
 
@@ -101,9 +87,6 @@ impl Book {
     pub fn value_type(&self, v: Value) -> Result<usize, Refusal>
         ensures { result ≡ value_type (model_of self.now) v }
     {
-        match self.type_of(v) {
-            Some(ty) => Ok(ty),
-            None => Err(Refusal::NoValue(v.val_uid)),
-        }
+        self.type_of(v).ok_or(Refusal::NoValue(v.val_uid))
     }
 }

@@ -1,23 +1,24 @@
 // The making of a book: the only call that allocates.
-ghost use Rattle.std.specs.Prelude.{◌≡◌, IfOk, vec_len};
+ghost use Rattle.std.specs.Prelude.{◌≡◌};
+ghost use Rattle.ir.specs.Limits.{limits};
+ghost use Rattle.model.specs.Steps.{make_check};
 ghost use Rattle.book.specs.Of.{Makes};
 
 use crate::book::Book;
+use crate::table::Table;
 use crate::unmade::Unmade;
-use ir::limits::{MAX_BLOCKS, MAX_OPERATIONS, MAX_REGIONS, MAX_TYPES};
+use ir::limits::MAX_TYPES;
 use ir::refusal::Refusal;
-use rows::spares::Spare;
-use std::alloc::{AllocError, Global};
+use std::alloc::Global;
 
-// n spare rows
-fn spares<T: Spare + Drop>(heap: Global, n: usize) -> Result<Vec<T>, AllocError>
-    ensures { IfOk result (λ v. vec_len v ≡ n) }
+// refusal 3
+fn check_types(types: &[u16]) -> Result<(), Refusal>
+    ensures { result ≡ make_check limits types.now }
 {
-    let mut rows = Vec::with_capacity(heap, n)?;
-    for _i in 0..n {
-        rows.push_reserved(T::spare(heap)?);
+    if types.len() > MAX_TYPES {
+        return Err(Refusal::OverCapacity);
     }
-    Ok(rows)
+    Ok(())
 }
 
 impl Book {
@@ -25,24 +26,13 @@ impl Book {
     pub fn new(heap: Global, types: &[u16]) -> Result<Book, Unmade>
         ensures { Makes types.now result }
     {
-        if types.len() > MAX_TYPES {
-            return Err(Unmade::Refused(Refusal::OverCapacity));
-        }
+        check_types(types)?;
         let types = Vec::from_slice(heap, types)?;
-        let ops = Vec::with_capacity(heap, MAX_OPERATIONS)?;
-        let blocks = Vec::with_capacity(heap, MAX_BLOCKS)?;
-        let regions = Vec::with_capacity(heap, MAX_REGIONS)?;
-        let spare_ops = spares(heap, MAX_OPERATIONS)?;
-        let spare_blocks = spares(heap, MAX_BLOCKS)?;
-        let spare_regions = spares(heap, MAX_REGIONS)?;
         Ok(Book {
             types,
-            ops,
-            blocks,
-            regions,
-            spare_ops,
-            spare_blocks,
-            spare_regions,
+            ops: Table::new(heap)?,
+            blocks: Table::new(heap)?,
+            regions: Table::new(heap)?,
             next_value: 0,
             next_use: 0,
         })

@@ -9,10 +9,10 @@ use ir::limits::{MAX_ARGUMENTS, MAX_BLOCKS};
 use ir::refusal::Refusal;
 use rows::scan::all_below;
 
-// 1, 3, 7
+// refusals 1, 3, 7
 fn check_block(book: &Book, types: &[usize]) -> Result<(), Refusal>
     ensures value { result ≡ block_check limits (model_of book.now) types.now }
-    ensures room { OnOk result ((length types.now ≤ limits.arguments) × (vec_len book.now.blocks < limits.blocks)) }
+    ensures room { OnOk result ((length types.now ≤ limits.arguments) × (vec_len book.now.blocks.rows < limits.blocks)) }
 {
     if !all_below(types, book.num_types()) {
         return Err(Refusal::NoRow);
@@ -32,10 +32,8 @@ pub fn new_block(book: &mut Book, arg_types: &[usize]) -> Result<usize, Refusal>
     ensures lasts { Lasts (model_of book.old) (model_of book.new) }
 {
     check_block(book, arg_types)?;
-    let at = book.num_blocks();
-    let mut row = book.spare_blocks.take_last();
-    row.fill(arg_types, book.next_value);
-    book.blocks.push_reserved(row);
+    let at = book.blocks.add();
+    book.blocks.rows[at].fill(arg_types, book.next_value);
     book.next_value += arg_types.len() as u32;
     Ok(at)
 }

@@ -3,6 +3,7 @@ ghost use Rattle.std.specs.Prelude.{◌≡◌, ◌+◌, ◌<◌, ◌≤◌, leng
 ghost use Rattle.ir.specs.Limits.{limits};
 ghost use Rattle.model.specs.Checks.{map_ok, operands_of};
 ghost use Rattle.model.specs.Steps.{rows_check, few_check, room_check, create_check};
+ghost use Rattle.rows.specs.NewRow.{IsFew};
 ghost use Rattle.book.specs.Of.{model_of};
 
 use book::book::Book;
@@ -12,16 +13,17 @@ use ir::limits::{
 };
 use ir::refusal::Refusal;
 use ir::value::Value;
+use rows::operation::new_row::NewOperation;
 use rows::scan::all_below;
 
 // types and successor blocks that are there: 1
-fn check_rows(book: &Book, types: &[usize], blocks: &[usize]) -> Result<(), Refusal>
-    ensures { result ≡ rows_check (model_of book.now) types.now blocks.now }
+fn check_rows(book: &Book, new: NewOperation<'_, Value>) -> Result<(), Refusal>
+    ensures { result ≡ rows_check (model_of book.now) new.entry.result_types.now new.entry.successors.now }
 {
-    if !all_below(types, book.num_types()) {
+    if !all_below(new.result_types, book.num_types()) {
         return Err(Refusal::NoRow);
     }
-    if !all_below(blocks, book.num_blocks()) {
+    if !all_below(new.successors, book.num_blocks()) {
         return Err(Refusal::NoRow);
     }
     Ok(())
@@ -32,20 +34,20 @@ fn check_values(book: &Book, values: &[Value]) -> Result<(), Refusal>
     ensures { result ≡ map_ok (λ _. tt) (operands_of (model_of book.now) (model_of book.now).uses values.now) }
 {
     for v in values {
-        let _ty = book.value_type(*v)?;
+        book.value_type(*v)?;
     }
     Ok(())
 }
 
 // no more of each than one operation may have: 3
-fn check_few(types: usize, values: usize, blocks: usize, n: usize) -> Result<(), Refusal>
-    ensures value { result ≡ few_check limits types values blocks n }
-    ensures few { OnOk result ((types ≤ limits.results) × ((values ≤ limits.operands) × ((blocks ≤ limits.successors) × (n ≤ limits.op_regions)))) }
+fn check_few(new: NewOperation<'_, Value>) -> Result<(), Refusal>
+    ensures value { result ≡ few_check limits (length new.entry.result_types.now) (length new.entry.operands.now) (length new.entry.successors.now) new.entry.num_regions }
+    ensures few { OnOk result (IsFew new.entry) }
 {
-    if types <= MAX_RESULTS
-        && values <= MAX_OPERANDS
-        && blocks <= MAX_SUCCESSORS
-        && n <= MAX_OP_REGIONS
+    if new.result_types.len() <= MAX_RESULTS
+        && new.operands.len() <= MAX_OPERANDS
+        && new.successors.len() <= MAX_SUCCESSORS
+        && new.num_regions <= MAX_OP_REGIONS
     {
         Ok(())
     } else {
@@ -57,7 +59,7 @@ fn check_few(types: usize, values: usize, blocks: usize, n: usize) -> Result<(),
 fn check_room(book: &Book, uses: usize, n: usize) -> Result<(), Refusal>
     requires { (uses ≤ limits.operands + limits.successors) × (n ≤ limits.op_regions) }
     ensures value { result ≡ room_check limits (model_of book.now) uses n }
-    ensures room { OnOk result ((vec_len book.now.ops < limits.operations) × ((vec_len book.now.regions + n ≤ limits.regions) × (book.now.next_use + uses ≤ limits.uses))) }
+    ensures room { OnOk result ((vec_len book.now.ops.rows < limits.operations) × ((vec_len book.now.regions.rows + n ≤ limits.regions) × (book.now.next_use + uses ≤ limits.uses))) }
 {
     if book.num_ops() >= MAX_OPERATIONS {
         return Err(Refusal::NoRowsLeft);
@@ -72,19 +74,14 @@ fn check_room(book: &Book, uses: usize, n: usize) -> Result<(), Refusal>
 }
 
 // all of them: 1, 2, 3, 7, 15
-pub fn check_operation(
-    book: &Book,
-    types: &[usize],
-    values: &[Value],
-    blocks: &[usize],
-    n: usize,
-) -> Result<(), Refusal>
-    ensures value { result ≡ map_ok (λ _. tt) (create_check limits (model_of book.now) types.now values.now blocks.now n) }
-    ensures few { OnOk result ((length types.now ≤ limits.results) × ((length values.now ≤ limits.operands) × ((length blocks.now ≤ limits.successors) × (n ≤ limits.op_regions)))) }
-    ensures room { OnOk result ((vec_len book.now.ops < limits.operations) × ((vec_len book.now.regions + n ≤ limits.regions) × (book.now.next_use + (length values.now + length blocks.now) ≤ limits.uses))) }
+pub fn check_operation(book: &Book, new: NewOperation<'_, Value>) -> Result<(), Refusal>
+    ensures value { result ≡ map_ok (λ _. tt) (create_check limits (model_of book.now) new.entry.result_types.now new.entry.operands.now new.entry.successors.now new.entry.num_regions) }
+    ensures few { OnOk result (IsFew new.entry) }
+    ensures room { OnOk result ((vec_len book.now.ops.rows < limits.operations) × ((vec_len book.now.regions.rows + new.entry.num_regions ≤ limits.regions) × (book.now.next_use + (length new.entry.operands.now + length new.entry.successors.now) ≤ limits.uses))) }
 {
-    check_rows(book, types, blocks)?;
-    check_values(book, values)?;
-    check_few(types.len(), values.len(), blocks.len(), n)?;
-    check_room(book, values.len() + blocks.len(), n)
+    check_rows(book, new)?;
+    check_values(book, new.operands)?;
+    check_few(new)?;
+    let uses = new.operands.len() + new.successors.len();
+    check_room(book, uses, new.num_regions)
 }

@@ -13,13 +13,11 @@ pub fn fill_places(book: &Book, values: &[Value], out: &mut [Operand])
     requires { (length values.now ≡ length out.old) × (length values.now ≤ limits.operands) }
     ensures { out.new ≡ numbered (typed_place (model_of book.now)) (model_of book.now).uses values.now }
 {
-    for i in 0..values.len() {
-        let value = values[i];
-        let ty = book.type_of(value).unwrap_or(0);
+    for (i, v) in values.iter().enumerate() {
         out[i] = Operand {
-            value,
+            value: *v,
             use_uid: book.next_use + i as u32,
-            ty,
+            ty: book.type_of(*v).unwrap_or(0),
         };
     }
 }

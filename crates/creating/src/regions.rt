@@ -1,22 +1,22 @@
-ghost use Rattle.std.specs.Prelude.{◌≡◌, ◌+◌, ◌≤◌, ◌++◌, map, replicate, vec_len, vec_capacity};
+ghost use Rattle.std.specs.Prelude.{◌≡◌, ◌+◌, ◌≤◌, ◌++◌, map, replicate, vec_len};
+ghost use Rattle.ir.specs.Limits.{limits};
 ghost use Rattle.model.specs.Model.{new_region};
 ghost use Rattle.rows.specs.Counts.{listed_blocks};
 ghost use Rattle.rows.specs.Of.{region_model};
 
+use book::table::Table;
+use ir::limits::MAX_REGIONS;
 use rows::region::Region;
 
-// n spare regions taken into use by one owner
-pub fn add_regions(regions: &mut Vec<Region>, spares: &mut Vec<Region>, owner: usize, n: usize)
-    requires { (vec_len regions.old + n ≤ vec_capacity regions.old) × (n ≤ vec_len spares.old) }
-    ensures rows { map region_model regions.new.items ≡ map region_model regions.old.items ++ replicate n (new_region owner) }
-    ensures len { vec_len regions.new ≡ vec_len regions.old + n }
-    ensures cap { vec_capacity regions.new ≡ vec_capacity regions.old }
-    ensures left { vec_len spares.new + n ≡ vec_len spares.old }
-    ensures listed { listed_blocks regions.new.items ≡ listed_blocks regions.old.items }
+// n regions of one owner
+pub fn add_regions(regions: &mut Table<Region, MAX_REGIONS>, owner: usize, n: usize)
+    requires { vec_len regions.old.rows + n ≤ limits.regions }
+    ensures rows { map region_model regions.new.rows.items ≡ map region_model regions.old.rows.items ++ replicate n (new_region owner) }
+    ensures len { vec_len regions.new.rows ≡ vec_len regions.old.rows + n }
+    ensures listed { listed_blocks regions.new.rows.items ≡ listed_blocks regions.old.rows.items }
 {
     for _i in 0..n {
-        let mut row = spares.take_last();
-        row.fill(owner);
-        regions.push_reserved(row);
+        let at = regions.add();
+        regions.rows[at].fill(owner);
     }
 }

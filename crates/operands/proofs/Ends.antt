@@ -1,11 +1,11 @@
 -- A push is an insertion at the end, a pop the removal of the last.
-use Rattle.std.proofs.Common.{◌≡◌, ℕ, zero, suc, ◌+◌, ◌-◌, Bool, true, false, leb, List, [], ◌∷◌, ◌++◌, length, Some, Ok, Err, Result, sym, refl, ap, ◌∙◌, arith}
+use Rattle.std.proofs.Common.{◌≡◌, ℕ, zero, suc, ◌+◌, Bool, true, false, leb, List, [], ◌∷◌, ◌++◌, length, Some, Ok, Err, Result, sym, refl, ap, ◌∙◌, arith}
 use Rattle.std.specs.List.{insert, remove, slice_get}
 use Rattle.std.proofs.lemmas.List.{take_all, drop_all}
 use Rattle.std.proofs.lemmas.Bool.{le-leb, false≢true}
 use Rattle.ir.specs.Limits.{Limits}
 use Rattle.ir.specs.declared.refusal.Refusal.{Refusal}
-use Rattle.ir.specs.declared.refusal.Refusal.TheVariants.{NoRow, OutOfRange, NothingToPop}
+use Rattle.ir.specs.declared.refusal.Refusal.TheVariants.{NoRow, OutOfRange}
 use Rattle.ir.specs.declared.value.Value.{Value}
 use Rattle.ir.specs.declared.value.Operand.{Operand}
 use Rattle.ir.specs.declared.value.Use.{Use}
@@ -31,7 +31,7 @@ edited_agree m i n f g o h e =
 inserted_last : (xs : List Operand) (x : Operand) → xs ++ x ∷ [] ≡ insert xs (length xs) x
 inserted_last xs x = let p = take_all (length xs) xs (omega arith) in let q = drop_all (length xs) xs (omega arith) in rw (p, q)
 
-abbrev pushed_at : ℕ → Use → Pushed
+abbrev pushed_at : ℕ → Use Operand → Pushed
 pushed_at k u = record { index = k; made = u }
 
 push_ladder : (m : BookM) (i k : ℕ) (f g : Operand → BookM) → ((x : Operand) → f x ≡ g x) → (p : Result Operand Refusal) (t : Bool) (q : Result (Unit {0}) Refusal) → t ≡ true →
@@ -51,17 +51,10 @@ push_is L m i k v o h e =
     (λ x. edited_agree m i (m.uses + 1) _ _ o h (inserted_last o.body.operands x))
     (operand m m.uses v) (leb n n) (one_more_check L m o) (le-leb n n (omega arith)))
 
-pub push_from : (L : Limits) (m n : BookM) (i k : ℕ) (v : Value) (o : OpM) (r : Result Use Refusal) → Ok o ≡ op_row m i → k ≡ length o.body.operands → insert_step L m i k v ≡ (r, n) → push_step L m i v ≡ (map_ok (pushed_at k) r, n)
+pub push_from : (L : Limits) (m n : BookM) (i k : ℕ) (v : Value) (o : OpM) (r : Result (Use Operand) Refusal) → Ok o ≡ op_row m i → k ≡ length o.body.operands → insert_step L m i k v ≡ (r, n) → push_step L m i v ≡ (map_ok (pushed_at k) r, n)
 push_from L m n i k v o r h e s = push_is L m i k v o h e ∙ ap (λ p. (map_ok (pushed_at k) p.0, p.1)) s
 
 -- ---- pop
-
-no_elements : (xs : List Operand) → length xs ≡ 0 → xs ≡ []
-no_elements [] e = refl
-no_elements (x ∷ xs) e = absurd (omega arith)
-
-pub pop_empty : (m : BookM) (i n : ℕ) (o : OpM) → Ok o ≡ op_row m i → n ≡ length o.body.operands → n ≡ 0 → pop_step m i ≡ (Err NothingToPop, m)
-pop_empty m i n o h l z = let e = no_elements o.body.operands (sym l ∙ z) in rw (← h, e)
 
 last_is : (x : Operand) (xs : List Operand) → last_of (x ∷ xs) ≡ place (x ∷ xs) (length xs)
 last_is x [] = refl
@@ -75,9 +68,9 @@ last_at : (xs : List Operand) (k : ℕ) → k + 1 ≡ length xs → (last_of xs 
 last_at [] k h = absurd (omega arith)
 last_at (x ∷ xs) k h = let e : length xs ≡ k = omega arith in (last_is x xs ∙ ap (place (x ∷ xs)) e, removed_last x xs ∙ ap (remove (x ∷ xs)) e)
 
-pub pop_is : (m : BookM) (i n : ℕ) (o : OpM) → Ok o ≡ op_row m i → n ≡ length o.body.operands → (n ≡ 0 → ⊥) → pop_step m i ≡ remove_step m i (n - 1)
-pop_is m i n o h l z =
-    let p = last_at o.body.operands (n - 1) (omega arith) in
+pub pop_is : (m : BookM) (i k n : ℕ) (o : OpM) → Ok o ≡ op_row m i → n ≡ length o.body.operands → k + 1 ≡ n → pop_step m i ≡ remove_step m i k
+pop_is m i k n o h l z =
+    let p = last_at o.body.operands k (z ∙ l) in
     rw (← h, p.0)
-    (ap (λ (k : BookM). steps (place o.body.operands (n - 1)) (λ x. x.value) (λ _. k) m)
-    (edited_agree m i m.uses all_but_last (λ xs. remove xs (n - 1)) o h p.1))
+    (ap (λ (n : BookM). steps (place o.body.operands k) (λ x. x.value) (λ _. n) m)
+    (edited_agree m i m.uses all_but_last (λ xs. remove xs k) o h p.1))

@@ -9,34 +9,39 @@ ghost use Rattle.book.specs.Of.{model_of};
 use crate::checks::{check_insert, check_remove, check_replace};
 use book::book::Book;
 use ir::refusal::Refusal;
-use ir::value::{Pushed, Use, Value};
+use ir::value::{Operand, Pushed, Use, Value};
 
 // v put in at k, before the operand that is there now; k may be the number of operands
-pub fn insert_operand(book: &mut Book, op: usize, k: usize, v: Value) -> Result<Use, Refusal>
+pub fn insert_operand(
+    book: &mut Book,
+    op: usize,
+    k: usize,
+    v: Value,
+) -> Result<Use<Operand>, Refusal>
     ensures step { insert_step limits (model_of book.old) op k v ≡ (result, model_of book.new) }
     ensures lasts { Lasts (model_of book.old) (model_of book.new) }
 {
     let x = check_insert(book, op, k, v)?;
-    book.ops[op].insert(k, x);
+    book.ops.rows[op].insert(k, x);
     book.next_use += 1;
-    Ok(Use {
-        user_op: op,
-        use_uid: x.use_uid,
-    })
+    Ok(Use::new(op, x.use_uid))
 }
 
-// v in the place of the operand k, as a new use
-pub fn replace_operand(book: &mut Book, op: usize, k: usize, v: Value) -> Result<Use, Refusal>
+// v in the place of the operand k, as a new use. Apart from the insertion: a function for both takes the write as a closure, and
+// its clauses (what that does to the row, and that the book stays sound) are longer than the lines that it would share
+pub fn replace_operand(
+    book: &mut Book,
+    op: usize,
+    k: usize,
+    v: Value,
+) -> Result<Use<Operand>, Refusal>
     ensures step { replace_step limits (model_of book.old) op k v ≡ (result, model_of book.new) }
     ensures lasts { Lasts (model_of book.old) (model_of book.new) }
 {
     let x = check_replace(book, op, k, v)?;
-    book.ops[op].replace(k, x);
+    book.ops.rows[op].replace(k, x);
     book.next_use += 1;
-    Ok(Use {
-        user_op: op,
-        use_uid: x.use_uid,
-    })
+    Ok(Use::new(op, x.use_uid))
 }
 
 // the operand k taken out
@@ -45,7 +50,7 @@ pub fn remove_operand(book: &mut Book, op: usize, k: usize) -> Result<Value, Ref
     ensures lasts { Lasts (model_of book.old) (model_of book.new) }
 {
     let x = check_remove(book, op, k)?;
-    book.ops[op].remove(k);
+    book.ops.rows[op].remove(k);
     Ok(x.value)
 }
 
@@ -65,8 +70,6 @@ pub fn pop_operand(book: &mut Book, op: usize) -> Result<Value, Refusal>
     ensures lasts { Lasts (model_of book.old) (model_of book.new) }
 {
     let n = book.op(op)?.operands.len();
-    if n == 0 {
-        return Err(Refusal::NothingToPop);
-    }
-    remove_operand(book, op, n - 1)
+    let last = n.checked_sub(1).ok_or(Refusal::NothingToPop)?;
+    remove_operand(book, op, last)
 }

@@ -1,17 +1,18 @@
-ghost use Rattle.std.specs.Prelude.{◌≡◌, ◌<◌, None, vec_len, OnOk, slice_index_or};
+ghost use Rattle.std.specs.Prelude.{◌≡◌, ◌<◌, None, vec_len, OnOk};
 ghost use Rattle.model.specs.Steps.{place_op_check, place_op_step, place_block_check, place_block_step};
 ghost use Rattle.model.specs.Lasts.{Lasts};
 ghost use Rattle.book.specs.Of.{model_of};
+ghost use Rattle.book.specs.Rows.{HasRow};
 
 use book::book::Book;
 use ir::refusal::Refusal;
-use rows::basic_block::BasicBlock;
-use rows::operation::Operation;
 
-// 1, 14
+// Two pairs of functions: a trait with a ghost record of rows, lists and steps, and its two impls, would be longer than they are.
+
+// refusals 1, 14
 pub fn check_place_operation(book: &Book, op: usize, b: usize) -> Result<(), Refusal>
     ensures value { result ≡ place_op_check (model_of book.now) op b }
-    ensures safe { OnOk result ((op < vec_len book.now.ops) × ((b < vec_len book.now.blocks) × ((o : Operation) → o ≡ slice_index_or book.now.ops.items op o → o.parent ≡ None))) }
+    ensures safe { OnOk result (HasRow book.now.ops.rows op (λ o. o.parent ≡ None) × (b < vec_len book.now.blocks.rows)) }
 {
     let o = book.op(op)?;
     let _b = book.block(b)?;
@@ -27,15 +28,15 @@ pub fn place_operation(book: &mut Book, op: usize, b: usize) -> Result<(), Refus
     ensures lasts { Lasts (model_of book.old) (model_of book.new) }
 {
     check_place_operation(book, op, b)?;
-    book.ops[op].stand_in(b);
-    book.blocks[b].add(op);
+    book.ops.rows[op].stand_in(b);
+    book.blocks.rows[b].add(op);
     Ok(())
 }
 
-// 1, 14
+// refusals 1, 14
 pub fn check_place_block(book: &Book, b: usize, r: usize) -> Result<(), Refusal>
     ensures value { result ≡ place_block_check (model_of book.now) b r }
-    ensures safe { OnOk result ((b < vec_len book.now.blocks) × ((r < vec_len book.now.regions) × ((x : BasicBlock) → x ≡ slice_index_or book.now.blocks.items b x → x.parent ≡ None))) }
+    ensures safe { OnOk result (HasRow book.now.blocks.rows b (λ x. x.parent ≡ None) × (r < vec_len book.now.regions.rows)) }
 {
     let x = book.block(b)?;
     let _r = book.region(r)?;
@@ -51,7 +52,7 @@ pub fn place_block(book: &mut Book, b: usize, r: usize) -> Result<(), Refusal>
     ensures lasts { Lasts (model_of book.old) (model_of book.new) }
 {
     check_place_block(book, b, r)?;
-    book.blocks[b].stand_in(r);
-    book.regions[r].add(b);
+    book.blocks.rows[b].stand_in(r);
+    book.regions.rows[r].add(b);
     Ok(())
 }

@@ -1,4 +1,4 @@
 pub mod Numbered
-pub mod Every
+pub mod Scanned
 pub mod Read
 pub mod Sums

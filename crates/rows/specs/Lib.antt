@@ -1,2 +1,4 @@
+pub mod Sizes
 pub mod Of
 pub mod Counts
+pub mod NewRow

@@ -1,14 +1,9 @@
 -- What a row means: its model.
-use Rattle.std.specs.Prelude.{Bool, true, false, Some, None, vec_items, Option}
+use Rattle.std.specs.Prelude.{vec_items}
 use Rattle.model.specs.Model.{OpM, BlockM, RegionM}
 use Rattle.rows.specs.declared.operation.Operation.{Operation}
 use Rattle.rows.specs.declared.basic_block.BasicBlock.{BasicBlock}
 use Rattle.rows.specs.declared.region.Region.{Region}
-
--- x, where the flag is set
-abbrev pub where_set : {X : Type 0} → Bool → X → Option X
-where_set true x = Some x
-where_set false x = None
 
 abbrev pub op_model : Operation → OpM
 op_model o = record {
@@ -19,7 +14,7 @@ op_model o = record {
     operands = vec_items o.operands;
     successors = vec_items o.successors;
     regions = vec_items o.regions;
-    sizes = where_set o.sized (vec_items o.sizes);
+    sizes = o.sizes;
   };
   parent = o.parent;
 }

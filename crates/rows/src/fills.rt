@@ -1,4 +1,5 @@
-// Lists of new numbers: what a new row is filled with.
+// Lists of new numbers: what a new row is filled with. They are pushed one by one, since `extend` does not promise to succeed
+// where there is room.
 ghost use Rattle.std.specs.Prelude.{◌≡◌, ℕ, ◌+◌, ◌^◌, ◌<◌, ◌≤◌, length, vec_capacity};
 ghost use Rattle.std.specs.List.{range_with_len};
 ghost use Rattle.model.specs.Model.{numbered, definition, successor};
@@ -33,27 +34,27 @@ impl Numbered for Successor {
 }
 
 // the list made anew of `from`, numbered from `first` on
+#[tactic(auto, using(crate::proofs::Numbered::numbered_step))]
 pub fn fill_numbered<T: Numbered + Drop>(out: &mut Vec<T>, from: &[usize], first: u32)
     requires { (first + length from.now < 2 ^ 32) × (length from.now ≤ vec_capacity out.old) }
     ensures items { out.new.items ≡ numbered T.Numbered.numbers first from.now }
     ensures cap { vec_capacity out.new ≡ vec_capacity out.old }
 {
     out.clear();
-    let mut n = first;
-    for x in from {
-        out.push_reserved(T::number(n, *x));
-        n += 1;
+    for (i, x) in from.iter().enumerate() {
+        out.push_reserved(T::number(first + i as u32, *x));
     }
 }
 
 // the list made anew of the n rows from `first` on
+#[tactic(auto, using(crate::proofs::Numbered::counting_more))]
 pub fn fill_rows(out: &mut Vec<usize>, first: usize, n: usize)
     requires { (first + n < 2 ^ 32) × (n ≤ vec_capacity out.old) }
     ensures items { out.new.items ≡ range_with_len first n }
     ensures cap { vec_capacity out.new ≡ vec_capacity out.old }
 {
     out.clear();
-    for i in 0..n {
-        out.push_reserved(first + i);
+    for i in first..first + n {
+        out.push_reserved(i);
     }
 }

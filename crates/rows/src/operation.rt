@@ -2,26 +2,27 @@
 ghost use Rattle.std.specs.Prelude.{◌≤◌, vec_capacity};
 ghost use Rattle.ir.specs.Limits.{limits};
 
+use crate::operation::sizes::SegmentSizes;
 use ir::location::Location;
 use ir::value::{Definition, Operand, Successor};
 
 mod edits;
+pub mod new_row;
+pub mod sizes;
 
-// `sizes` counts only where `sized` is set: sizes that are absent and an empty list of sizes are two states
 #[derive(Drop)]
 pub struct Operation {
+    // a byte and not `Kind`: families are open, and any byte is a kind of some family
     pub kind: u8,
     pub location: Location,
     pub results: Vec<Definition>,
     pub operands: Vec<Operand>,
     pub successors: Vec<Successor>,
     pub regions: Vec<usize>,
-    pub sized: bool,
-    pub sizes: Vec<u32>,
+    pub sizes: SegmentSizes,
     pub parent: Option<usize>,
     ghost results_room: { limits.results ≤ vec_capacity results },
     ghost operands_room: { limits.operands ≤ vec_capacity operands },
     ghost successors_room: { limits.successors ≤ vec_capacity successors },
     ghost regions_room: { limits.op_regions ≤ vec_capacity regions },
-    ghost sizes_room: { limits.segments ≤ vec_capacity sizes },
 }

@@ -9,22 +9,12 @@ use ir::value::Definition;
 pub fn find_type(definitions: &[Definition], uid: u32) -> Option<usize>
     ensures { result ≡ type_in uid definitions.now }
 {
-    for d in definitions {
-        if d.val_uid == uid {
-            return Some(d.ty);
-        }
-    }
-    None
+    definitions.iter().find(|d| d.val_uid == uid).map(|d| d.ty)
 }
 
 // whether each of `rows` is below n
 pub fn all_below(rows: &[usize], n: usize) -> bool
     ensures { result ≡ every (λ t. nat_lt t n) rows.now }
 {
-    for x in rows {
-        if *x >= n {
-            return false;
-        }
-    }
-    true
+    rows.iter().all(|x| *x < n)
 }

@@ -3,10 +3,11 @@ ghost use Rattle.std.specs.Result.{MatchResult};
 
 use crate::basic_block::BasicBlock;
 use crate::operation::Operation;
+use crate::operation::sizes::SegmentSizes;
 use crate::region::Region;
 use ir::limits::{
     MAX_ARGUMENTS, MAX_BLOCKS, MAX_OP_REGIONS, MAX_OPERANDS, MAX_OPERATIONS, MAX_RESULTS,
-    MAX_SEGMENTS, MAX_SUCCESSORS,
+    MAX_SUCCESSORS,
 };
 use ir::location::Location;
 use std::alloc::{AllocError, Global};
@@ -22,7 +23,7 @@ impl Spare for Operation {
         let operands = Vec::with_capacity(heap, MAX_OPERANDS)?;
         let successors = Vec::with_capacity(heap, MAX_SUCCESSORS)?;
         let regions = Vec::with_capacity(heap, MAX_OP_REGIONS)?;
-        let sizes = Vec::with_capacity(heap, MAX_SEGMENTS)?;
+        let sizes = SegmentSizes::absent(heap)?;
         Ok(Operation {
             kind: 0,
             location: Location::Unknown,
@@ -30,7 +31,6 @@ impl Spare for Operation {
             operands,
             successors,
             regions,
-            sized: false,
             sizes,
             parent: None,
         })

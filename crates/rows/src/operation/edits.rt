@@ -1,42 +1,33 @@
 // What is done to the row of an operation.
-ghost use Rattle.std.specs.Prelude.{◌≡◌, ◌+◌, ◌<◌, ◌≤◌, length, set, None, vec_len, slice_set};
+ghost use Rattle.std.specs.Prelude.{◌≡◌, ◌<◌, ◌≤◌, vec_len, slice_set};
 ghost use Rattle.std.specs.Option.{option_map};
 ghost use Rattle.std.specs.List.{insert, remove};
 ghost use Rattle.ir.specs.Limits.{limits};
-ghost use Rattle.model.specs.Model.{new_op, with_operands, op_in};
+ghost use Rattle.model.specs.Model.{with_operands, op_in};
 ghost use Rattle.rows.specs.Of.{op_model};
+ghost use Rattle.rows.specs.NewRow.{IsFew, IsLow, row_model};
 
 use crate::fills::{fill_numbered, fill_rows};
 use crate::operation::Operation;
-use ir::location::Location;
+use crate::operation::new_row::{FirstNumbers, NewOperation};
 use ir::value::Operand;
 
 impl Operation {
     // the row made that of a new operation
-    pub fn fill(
-        &mut self,
-        kind: u8,
-        location: Location,
-        types: &[usize],
-        operands: &[Operand],
-        blocks: &[usize],
-        n: usize,
-        first_value: u32,
-        first_use: u32,
-        first_region: usize,
-    )
-        requires few { (length types.now ≤ limits.results) × ((length operands.now ≤ limits.operands) × ((length blocks.now ≤ limits.successors) × (n ≤ limits.op_regions))) }
-        requires low { (first_value ≤ limits.uses) × ((first_use ≤ limits.uses) × (first_region ≤ limits.regions)) }
-        ensures { op_model self.new ≡ new_op kind location None types.now operands.now blocks.now n first_value first_use first_region }
+    pub fn fill(&mut self, new: NewOperation<'_, Operand>, first: FirstNumbers)
+        requires few { IsFew new }
+        requires low { IsLow first }
+        ensures { op_model self.new ≡ row_model new.entry first }
     {
-        self.kind = kind;
-        self.location = location;
-        fill_numbered(&mut self.results, types, first_value);
+        self.kind = new.kind;
+        self.location = new.location;
+        fill_numbered(&mut self.results, new.result_types, first.value);
         self.operands.clear();
-        let _ = self.operands.extend_from_slice(operands);
-        fill_numbered(&mut self.successors, blocks, first_use);
-        fill_rows(&mut self.regions, first_region, n);
-        self.sized = false;
+        // there is room, so neither this nor the inserting below can fail
+        let _ = self.operands.extend_from_slice(new.operands);
+        fill_numbered(&mut self.successors, new.successors, first.block_use);
+        fill_rows(&mut self.regions, first.region, new.num_regions);
+        self.sizes.unset();
         self.parent = None;
     }
 
@@ -75,10 +66,6 @@ impl Operation {
     pub fn sizes(&self) -> Option<&[u32]>
         ensures { option_map (λ z. z.now) result ≡ (op_model self.now).body.sizes }
     {
-        if self.sized {
-            Some(self.sizes.as_slice())
-        } else {
-            None
-        }
+        self.sizes.get()
     }
 }

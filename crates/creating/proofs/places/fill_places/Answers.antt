@@ -17,9 +17,9 @@ loop-i-preserved c =
     let m = model_of c.args.book.now in
     let i = c.loop-i.i in
     let v = get_or c.args.values.now i (record { val_uid = 0; defining_entity = Op 0 }) in
-    let x : Operand = record { value = v; use_uid = m.uses + i; ty = c.unwrap_or-ty.result } in
+    let x : Operand = record { value = v; use_uid = m.uses + i; ty = c.unwrap_or.result } in
     numbered_step (typed_place m) m.uses c.args.values.now i (record { val_uid = 0; defining_entity = Op 0 }) (m.uses + i) x (take i c.loop-i.out) (take (i + 1) (set c.loop-i.out i x)) c.loop-i-test.true c.loop-i.invariant (omega arith)
-    (ap (λ (t : ℕ). record { value = v; use_uid = m.uses + i; ty = t }) (c.unwrap_or-ty.ensures ∙ ap (λ (o : Option ℕ). unwrap_or o 0) c.type_of.ensures))
+    (ap (λ (t : ℕ). record { value = v; use_uid = m.uses + i; ty = t }) (c.unwrap_or.ensures ∙ ap (λ (o : Option ℕ). unwrap_or o 0) c.type_of.ensures))
     (take_more_set c.loop-i.out i x (omega (arith, c.loop-i.auto.out, c.requires.0)))
 
 pub returns : goal.returns

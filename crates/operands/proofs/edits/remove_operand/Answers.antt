@@ -1,41 +1,23 @@
-use Rattle.std.proofs.Common.{ap}
 use Rattle.std.specs.List.{remove}
 use Rattle.ir.specs.Limits.{limits}
-use Rattle.model.specs.Model.{OpM, with_operands}
-use Rattle.model.specs.Steps.{edited, remove_check}
 use Rattle.model.proofs.Edited.{sound_removed, lasts_removed}
 use Rattle.book.specs.Of.{model_of}
-use Rattle.book.proofs.Sounds.{sound_of, sound_at}
-use Rattle.book.proofs.Changes.{steps_ok, lasts_at, row_changed, op_fit}
+use Rattle.operands.proofs.Written.{written_holds, written_steps}
 use Rattle.operands.proofs.edits.remove_operand.Goals as goal
 
 pub invariant_of-book : goal.invariant_of-book
 invariant_of-book c =
-    let b = c.args.book.now in
-    let i = c.args.op in
-    let k = c.args.k in
+    let a = c.args in
+    let b = a.book.now in
     let x = c.in_ok-x.x in
     let s = c.in_ok-x.ensures in
-    let e = c.index_mut.ensures.value in
-    let fit = op_fit b i c.index_mut.result.now c.remove.new.self s.safe.0 e (ap (λ (o : OpM). o.parent) c.remove.ensures) in
-    let after = row_changed b i b.next_use c.index_mut.result.now c.remove.new.self (with_operands (λ xs. remove xs k)) e c.remove.ensures in
-    record {
-      room = b.room;
-      all = b.all;
-      made = b.made;
-      fit = fit;
-      sound = sound_at _ _ after (sound_removed limits (model_of b) i k x (sound_of b) s.value);
-    }
+    let p = written_holds b a.op b.next_use (λ _ xs. remove xs a.k) _ x s.value _ c.remove.new.self c.index_mut.ensures.value c.remove.ensures s.safe.0 (sound_removed limits (model_of b) a.op a.k x) in
+    ((b.ops.room, (b.ops.all, tt)), (b.made, (p.0, (p.1, tt))))
 
 pub returns : goal.returns
 returns c =
-    let b = c.args.book.now in
-    let i = c.args.op in
-    let k = c.args.k in
+    let a = c.args in
+    let b = a.book.now in
     let x = c.in_ok-x.x in
-    let h = c.in_ok-x.ensures.value in
-    let after = row_changed b i b.next_use c.index_mut.result.now c.remove.new.self (with_operands (λ xs. remove xs k)) c.index_mut.ensures.value c.remove.ensures in
-    record {
-      step = steps_ok (remove_check (model_of b) i k) x (λ x. x.value) (λ x. edited (model_of b) i b.next_use (λ xs. remove xs k)) (model_of b) _ h after;
-      lasts = lasts_at (model_of b) _ _ after (lasts_removed (model_of b) i k x h);
-    }
+    let p = written_steps b a.op b.next_use (λ _ xs. remove xs a.k) _ x c.in_ok-x.ensures.value _ c.remove.new.self c.index_mut.ensures.value c.remove.ensures (λ x. x.value) (lasts_removed (model_of b) a.op a.k x) in
+    record { step = p.0; lasts = p.1 }

@@ -1,15 +1,9 @@
-use Rattle.std.proofs.Common.{ℕ, ltb}
-use Rattle.std.proofs.lemmas.Bool.{le-ltb, lt-ltb}
-use Rattle.rows.proofs.Every.{every_more, every_stop, every_end}
+use Rattle.std.proofs.Common.{rules, tests, ltb, ◌∙◌}
+use Rattle.std.proofs.lemmas.Iterator.{YieldsList-from_slice}
+use Rattle.std.proofs.lemmas.Iterator.Search.{all_from_yields_List}
+use Rattle.rows.proofs.Scanned.{all_is}
 use Rattle.rows.proofs.scan.all_below.Goals as goal
 
-pub returns-then-x-n : goal.returns-then-x-n
-returns-then-x-n c =
-    every_stop (λ (t : ℕ). ltb t c.args.n) c.args.rows.now c.loop-x.x-index _ c.loop-x-test.true (le-ltb _ _ c.if-x-n.true) c.loop-x.invariant
-
-pub loop-x-preserved : goal.loop-x-preserved
-loop-x-preserved c =
-    every_more (λ (t : ℕ). ltb t c.args.n) c.args.rows.now c.loop-x.x-index _ c.loop-x-test.true (lt-ltb _ _ c.if-x-n.false) c.loop-x.invariant
-
 pub returns : goal.returns
-returns c = every_end (λ (t : ℕ). ltb t c.args.n) c.args.rows.now c.loop-x.x-index c.loop-x-test.false c.loop-x.invariant
+returns c =
+    all_from_yields_List (λ x. ltb x c.args.n) _ _ _ c.all.ensures.ran (YieldsList-from_slice c.args.rows.now cc) (λ x b q k. search (rules, tests)) ∙ all_is _ c.args.rows.now

@@ -1,21 +1,11 @@
-use Rattle.std.proofs.Common.{◌≡◌, ℕ, ◌+◌, ◌<◌, List, length, get_or, drop, Some, sym, ◌∙◌}
-use Rattle.std.proofs.lemmas.List.{at_drop_more, at_drop_all}
-use Rattle.std.proofs.lemmas.Bool.{eq-eqb, ne_eqb}
-use Rattle.ir.specs.declared.value.Definition.{Definition}
+use Rattle.std.proofs.Common.{rules, tests, ◌==◌, refl, ◌∙◌}
+use Rattle.std.proofs.lemmas.Iterator.{YieldsList-from_slice}
+use Rattle.std.proofs.lemmas.Iterator.Search.{find_from_yields_List}
 use Rattle.model.specs.Model.{type_in}
+use Rattle.rows.proofs.Scanned.{found_as, found_mapped}
 use Rattle.rows.proofs.scan.find_type.Goals as goal
 
-miss : (u : ℕ) (xs : List Definition) (i : ℕ) (d : Definition) → i < length xs → ((get_or xs i d).val_uid ≡ u → ⊥) → type_in u (drop i xs) ≡ type_in u (drop (i + 1) xs)
-miss u xs i d h n = let e = ne_eqb (get_or xs i d).val_uid u n in at_drop_more (type_in u) xs i d h ∙ rw e
-
-hit : (u : ℕ) (xs : List Definition) (i : ℕ) (d : Definition) → i < length xs → (get_or xs i d).val_uid ≡ u → type_in u (drop i xs) ≡ Some (get_or xs i d).ty
-hit u xs i d h n = let e = eq-eqb (get_or xs i d).val_uid u n in at_drop_more (type_in u) xs i d h ∙ rw e
-
-pub loop-d-preserved : goal.loop-d-preserved
-loop-d-preserved c = sym (miss _ _ _ _ c.loop-d-test.true c.if-d-uid.false) ∙ c.loop-d.invariant
-
-pub returns-then-d-uid : goal.returns-then-d-uid
-returns-then-d-uid c = sym (hit _ _ _ _ c.loop-d-test.true c.if-d-uid.true) ∙ c.loop-d.invariant
-
 pub returns : goal.returns
-returns c = sym (at_drop_all (type_in c.args.uid) c.args.definitions.now c.loop-d.d-index c.loop-d-test.false) ∙ c.loop-d.invariant
+returns c =
+    let e = find_from_yields_List (λ d. d.val_uid == c.args.uid) _ _ c.find.result c.find.ensures.ran (YieldsList-from_slice c.args.definitions.now cc) (λ x b q k. search (rules, tests)) in
+    found_mapped (λ d. d.ty) _ c.find.result c.map.result _ c.map.ensures.cases (λ d t k. search rules) e ∙ found_as (λ d. d.ty) (λ d. d.val_uid == c.args.uid) (type_in c.args.uid) refl (λ d ds. refl) c.args.definitions.now

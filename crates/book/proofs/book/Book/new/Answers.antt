@@ -6,12 +6,10 @@ use Rattle.book.proofs.book.Book.new.Goals as goal
 
 pub invariant_of-result : goal.invariant_of-result
 invariant_of-result c =
-    let p = c.in_ok-ops.ensures.items in
-    let q = c.in_ok-blocks.ensures.items in
-    let r = c.in_ok-regions.ensures.items in
+    let p = c.in_ok-new.ensures in
+    let q = c.in_ok-new-2.ensures in
+    let r = c.in_ok-new-3.ensures in
     record {
-      room = search rules;
-      all = search rules;
       made = search rules;
       fit = empty_fits _ _ _ p q r;
       sound = sound_at _ _ (empty_parts (vec_items c.in_ok-types.types) _ _ _ p q r) (sound_empty limits (vec_items c.in_ok-types.types));
