@@ -1,6 +1,7 @@
 -- What is read of one row. Refusals: 1 where there is no such row, then 10 where it has no such place.
 use Rattle.std.specs.Prelude.{ℕ, length, Option, Result}
 use Rattle.std.specs.List.{slice_get}
+use Rattle.ir.specs.Uses.{use_in}
 use Rattle.ir.specs.declared.location.Location.{Location}
 use Rattle.ir.specs.declared.refusal.Refusal.{Refusal}
 use Rattle.ir.specs.declared.value.DefiningEntity.{DefiningEntity}
@@ -10,7 +11,6 @@ use Rattle.ir.specs.declared.value.Definition.{Definition}
 use Rattle.ir.specs.declared.value.Operand.{Operand}
 use Rattle.ir.specs.declared.value.Successor.{Successor}
 use Rattle.ir.specs.declared.value.Use.{Use}
-use Rattle.ir.specs.declared.value.BlockUse.{BlockUse}
 use Rattle.model.specs.Model.{BookM}
 use Rattle.model.specs.Checks.{and_then, map_ok, op_row, block_row, region_row, place}
 use Rattle.model.specs.Steps.{use_of}
@@ -20,8 +20,8 @@ abbrev pub value_by : DefiningEntity → Definition → Value
 value_by e d = record { val_uid = d.val_uid; defining_entity = e }
 
 -- the use of a block that a successor place of operation i is
-abbrev pub block_use_of : ℕ → Successor → BlockUse
-block_use_of i s = record { user_op = i; use_uid = s.use_uid }
+abbrev pub block_use_of : ℕ → Successor → Use Successor
+block_use_of i s = use_in i s.use_uid
 
 -- ---- an operation
 
@@ -43,7 +43,7 @@ abbrev pub op_operand : BookM → ℕ → ℕ → Result Value Refusal
 op_operand m i k = map_ok (λ x. x.value) (operand_place m i k)
 
 -- the use that the operand place k is
-abbrev pub op_operand_use : BookM → ℕ → ℕ → Result Use Refusal
+abbrev pub op_operand_use : BookM → ℕ → ℕ → Result (Use Operand) Refusal
 op_operand_use m i k = map_ok (use_of i) (operand_place m i k)
 
 abbrev pub op_num_results : BookM → ℕ → Result ℕ Refusal
@@ -67,7 +67,7 @@ abbrev pub op_successor : BookM → ℕ → ℕ → Result ℕ Refusal
 op_successor m i k = map_ok (λ s. s.block) (successor_place m i k)
 
 -- the use that the successor place k is
-abbrev pub op_successor_use : BookM → ℕ → ℕ → Result BlockUse Refusal
+abbrev pub op_successor_use : BookM → ℕ → ℕ → Result (Use Successor) Refusal
 op_successor_use m i k = map_ok (block_use_of i) (successor_place m i k)
 
 abbrev pub op_num_regions : BookM → ℕ → Result ℕ Refusal

@@ -1,4 +1,4 @@
-// What the row of a block holds.
+// What the row of a block holds, as operation.rt reads that of an operation.
 ghost use Rattle.std.specs.Prelude.{◌≡◌};
 ghost use Rattle.book.specs.Of.{model_of};
 ghost use Rattle.model.specs.Checks.{block_row};
@@ -15,20 +15,14 @@ use ir::value::{DefiningEntity, Definition, Value};
 pub fn get_num_arguments(book: &Book, block: usize) -> Result<usize, Refusal>
     ensures { result ≡ block_num_arguments (model_of book.now) block }
 {
-    match book.block(block) {
-        Ok(b) => Ok(b.args.len()),
-        Err(e) => Err(e),
-    }
+    Ok(book.block(block)?.args.len())
 }
 
 // the i-th argument, as the row holds it
 fn argument(book: &Book, block: usize, i: usize) -> Result<Definition, Refusal>
     ensures { result ≡ argument_place (model_of book.now) block i }
 {
-    match book.block(block) {
-        Ok(b) => read_place(&b.args, i),
-        Err(e) => Err(e),
-    }
+    read_place(&book.block(block)?.args, i)
 }
 
 // the i-th argument
@@ -45,20 +39,14 @@ pub fn get_argument(book: &Book, block: usize, i: usize) -> Result<Value, Refusa
 pub fn num_operations(book: &Book, block: usize) -> Result<usize, Refusal>
     ensures { result ≡ block_num_operations (model_of book.now) block }
 {
-    match book.block(block) {
-        Ok(b) => Ok(b.ops.len()),
-        Err(e) => Err(e),
-    }
+    Ok(book.block(block)?.ops.len())
 }
 
 // the i-th operation
 pub fn get_operation(book: &Book, block: usize, i: usize) -> Result<usize, Refusal>
     ensures { result ≡ block_operation (model_of book.now) block i }
 {
-    match book.block(block) {
-        Ok(b) => read_place(&b.ops, i),
-        Err(e) => Err(e),
-    }
+    read_place(&book.block(block)?.ops, i)
 }
 
 // the region in which the block stands
@@ -67,10 +55,7 @@ pub fn get_parent_region(book: &Book, block: usize) -> Result<Option<usize>, Ref
     ensures listed { Found (block_row (model_of book.now) block) (Names (λ p. RegionLists (model_of book.now) p block)) result }
 {
     standing(book);
-    match book.block(block) {
-        Ok(b) => Ok(b.parent),
-        Err(e) => Err(e),
-    }
+    Ok(book.block(block)?.parent)
 }
 
 // the operation in whose region the block stands
@@ -79,8 +64,7 @@ pub fn get_parent_op(book: &Book, block: usize) -> Result<Option<usize>, Refusal
     ensures listed { Found (block_row (model_of book.now) block) (Names (λ p. OpHoldsBlock (model_of book.now) p block)) result }
 {
     standing(book);
-    match get_parent_region(book, block)? {
-        Some(r) => Ok(Some(region::get_parent_op(book, r)?)),
-        None => Ok(None),
-    }
+    get_parent_region(book, block)?
+        .map(|r| region::get_parent_op(book, r))
+        .transpose()
 }

@@ -1,4 +1,5 @@
-// What the row of an operation holds.
+// What the row of an operation holds. Each reader is one expression, with pliron's name: one generic reader would want a marker type
+// for each of the lists, and be no shorter.
 ghost use Rattle.std.specs.Prelude.{◌≡◌};
 ghost use Rattle.book.specs.Of.{model_of};
 ghost use Rattle.model.specs.Checks.{op_row};
@@ -11,43 +12,32 @@ use crate::standing::standing;
 use book::book::Book;
 use ir::location::Location;
 use ir::refusal::Refusal;
-use ir::value::{BlockUse, DefiningEntity, Definition, Operand, Successor, Use, Value};
+use ir::value::{DefiningEntity, Definition, Operand, Successor, Use, Value};
 
+// a byte and not `Kind`: families are open, and any byte is a kind of some family
 pub fn get_kind(book: &Book, op: usize) -> Result<u8, Refusal>
     ensures { result ≡ op_kind (model_of book.now) op }
 {
-    match book.op(op) {
-        Ok(o) => Ok(o.kind),
-        Err(e) => Err(e),
-    }
+    Ok(book.op(op)?.kind)
 }
 
 pub fn get_loc(book: &Book, op: usize) -> Result<Location, Refusal>
     ensures { result ≡ op_loc (model_of book.now) op }
 {
-    match book.op(op) {
-        Ok(o) => Ok(o.location),
-        Err(e) => Err(e),
-    }
+    Ok(book.op(op)?.location)
 }
 
 pub fn get_num_operands(book: &Book, op: usize) -> Result<usize, Refusal>
     ensures { result ≡ op_num_operands (model_of book.now) op }
 {
-    match book.op(op) {
-        Ok(o) => Ok(o.operands.len()),
-        Err(e) => Err(e),
-    }
+    Ok(book.op(op)?.operands.len())
 }
 
 // the i-th operand place
 fn operand(book: &Book, op: usize, i: usize) -> Result<Operand, Refusal>
     ensures { result ≡ operand_place (model_of book.now) op i }
 {
-    match book.op(op) {
-        Ok(o) => read_place(&o.operands, i),
-        Err(e) => Err(e),
-    }
+    read_place(&book.op(op)?.operands, i)
 }
 
 // the value of the i-th operand
@@ -58,33 +48,24 @@ pub fn get_operand(book: &Book, op: usize, i: usize) -> Result<Value, Refusal>
 }
 
 // the use that the i-th operand is
-pub fn get_operand_as_use(book: &Book, op: usize, i: usize) -> Result<Use, Refusal>
+pub fn get_operand_as_use(book: &Book, op: usize, i: usize) -> Result<Use<Operand>, Refusal>
     ensures { result ≡ op_operand_use (model_of book.now) op i }
 {
     let x = operand(book, op, i)?;
-    Ok(Use {
-        user_op: op,
-        use_uid: x.use_uid,
-    })
+    Ok(Use::new(op, x.use_uid))
 }
 
 pub fn get_num_results(book: &Book, op: usize) -> Result<usize, Refusal>
     ensures { result ≡ op_num_results (model_of book.now) op }
 {
-    match book.op(op) {
-        Ok(o) => Ok(o.results.len()),
-        Err(e) => Err(e),
-    }
+    Ok(book.op(op)?.results.len())
 }
 
 // the i-th result, as the row holds it
 fn result(book: &Book, op: usize, i: usize) -> Result<Definition, Refusal>
     ensures { result ≡ result_place (model_of book.now) op i }
 {
-    match book.op(op) {
-        Ok(o) => read_place(&o.results, i),
-        Err(e) => Err(e),
-    }
+    read_place(&book.op(op)?.results, i)
 }
 
 // the i-th result
@@ -101,20 +82,14 @@ pub fn get_result(book: &Book, op: usize, i: usize) -> Result<Value, Refusal>
 pub fn get_num_successors(book: &Book, op: usize) -> Result<usize, Refusal>
     ensures { result ≡ op_num_successors (model_of book.now) op }
 {
-    match book.op(op) {
-        Ok(o) => Ok(o.successors.len()),
-        Err(e) => Err(e),
-    }
+    Ok(book.op(op)?.successors.len())
 }
 
 // the i-th successor place
 fn successor(book: &Book, op: usize, i: usize) -> Result<Successor, Refusal>
     ensures { result ≡ successor_place (model_of book.now) op i }
 {
-    match book.op(op) {
-        Ok(o) => read_place(&o.successors, i),
-        Err(e) => Err(e),
-    }
+    read_place(&book.op(op)?.successors, i)
 }
 
 // the block that the i-th successor names
@@ -125,33 +100,24 @@ pub fn get_successor(book: &Book, op: usize, i: usize) -> Result<usize, Refusal>
 }
 
 // the use that the i-th successor is
-pub fn get_successor_as_use(book: &Book, op: usize, i: usize) -> Result<BlockUse, Refusal>
+pub fn get_successor_as_use(book: &Book, op: usize, i: usize) -> Result<Use<Successor>, Refusal>
     ensures { result ≡ op_successor_use (model_of book.now) op i }
 {
     let s = successor(book, op, i)?;
-    Ok(BlockUse {
-        user_op: op,
-        use_uid: s.use_uid,
-    })
+    Ok(Use::new(op, s.use_uid))
 }
 
 pub fn num_regions(book: &Book, op: usize) -> Result<usize, Refusal>
     ensures { result ≡ op_num_regions (model_of book.now) op }
 {
-    match book.op(op) {
-        Ok(o) => Ok(o.regions.len()),
-        Err(e) => Err(e),
-    }
+    Ok(book.op(op)?.regions.len())
 }
 
 // the i-th region
 pub fn get_region(book: &Book, op: usize, i: usize) -> Result<usize, Refusal>
     ensures { result ≡ op_region (model_of book.now) op i }
 {
-    match book.op(op) {
-        Ok(o) => read_place(&o.regions, i),
-        Err(e) => Err(e),
-    }
+    read_place(&book.op(op)?.regions, i)
 }
 
 // the block in which the operation stands
@@ -160,10 +126,7 @@ pub fn get_parent_block(book: &Book, op: usize) -> Result<Option<usize>, Refusal
     ensures listed { Found (op_row (model_of book.now) op) (Names (λ p. BlockLists (model_of book.now) p op)) result }
 {
     standing(book);
-    match book.op(op) {
-        Ok(o) => Ok(o.parent),
-        Err(e) => Err(e),
-    }
+    Ok(book.op(op)?.parent)
 }
 
 // the region in which that block stands
@@ -172,10 +135,7 @@ pub fn get_parent_region(book: &Book, op: usize) -> Result<Option<usize>, Refusa
     ensures listed { Found (op_row (model_of book.now) op) (Names (λ p. RegionHolds (model_of book.now) p op)) result }
 {
     standing(book);
-    match get_parent_block(book, op)? {
-        Some(b) => basic_block::get_parent_region(book, b),
-        None => Ok(None),
-    }
+    get_parent_block(book, op)?.map_or(Ok(None), |b| basic_block::get_parent_region(book, b))
 }
 
 // the operation that this region belongs to: it may be the operation itself
@@ -184,8 +144,5 @@ pub fn get_parent_op(book: &Book, op: usize) -> Result<Option<usize>, Refusal>
     ensures listed { Found (op_row (model_of book.now) op) (Names (λ p. OpHolds (model_of book.now) p op)) result }
 {
     standing(book);
-    match get_parent_block(book, op)? {
-        Some(b) => basic_block::get_parent_op(book, b),
-        None => Ok(None),
-    }
+    get_parent_block(book, op)?.map_or(Ok(None), |b| basic_block::get_parent_op(book, b))
 }

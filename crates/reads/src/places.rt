@@ -16,8 +16,5 @@ pub fn item<T: Copy>(xs: &[T], k: usize) -> Option<T>
 pub fn read_place<T: Copy>(xs: &[T], k: usize) -> Result<T, Refusal>
     ensures { result ≡ place xs.now k }
 {
-    match item(xs, k) {
-        Some(x) => Ok(x),
-        None => Err(Refusal::OutOfRange),
-    }
+    item(xs, k).ok_or(Refusal::OutOfRange)
 }

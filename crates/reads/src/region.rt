@@ -1,4 +1,4 @@
-// What the row of a region holds.
+// What the row of a region holds, as operation.rt reads that of an operation.
 ghost use Rattle.std.specs.Prelude.{◌≡◌, Some};
 ghost use Rattle.book.specs.Of.{model_of};
 ghost use Rattle.model.specs.Checks.{map_ok, region_row};
@@ -13,30 +13,21 @@ use ir::refusal::Refusal;
 pub fn num_blocks(book: &Book, region: usize) -> Result<usize, Refusal>
     ensures { result ≡ region_num_blocks (model_of book.now) region }
 {
-    match book.region(region) {
-        Ok(x) => Ok(x.blocks.len()),
-        Err(e) => Err(e),
-    }
+    Ok(book.region(region)?.blocks.len())
 }
 
 // the i-th block
 pub fn get_block(book: &Book, region: usize, i: usize) -> Result<usize, Refusal>
     ensures { result ≡ region_block (model_of book.now) region i }
 {
-    match book.region(region) {
-        Ok(x) => read_place(&x.blocks, i),
-        Err(e) => Err(e),
-    }
+    read_place(&book.region(region)?.blocks, i)
 }
 
 // the first block, if there is one
 pub fn get_entry_block(book: &Book, region: usize) -> Result<Option<usize>, Refusal>
     ensures { result ≡ region_entry (model_of book.now) region }
 {
-    match book.region(region) {
-        Ok(x) => Ok(item(&x.blocks, 0)),
-        Err(e) => Err(e),
-    }
+    Ok(item(&book.region(region)?.blocks, 0))
 }
 
 // the operation that the region belongs to
@@ -45,8 +36,5 @@ pub fn get_parent_op(book: &Book, region: usize) -> Result<usize, Refusal>
     ensures listed { Found (region_row (model_of book.now) region) (Names (λ p. OpLists (model_of book.now) p region)) (map_ok (λ p. Some p) result) }
 {
     standing(book);
-    match book.region(region) {
-        Ok(x) => Ok(x.owner),
-        Err(e) => Err(e),
-    }
+    Ok(book.region(region)?.owner)
 }

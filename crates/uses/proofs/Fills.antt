@@ -1,95 +1,85 @@
--- Steps of loops that fill a list of the caller from its front.
-use Rattle.std.proofs.Common.{◌≡◌, ℕ, ◌+◌, ◌<◌, ◌≤◌, Bool, true, false, List, [], ◌∷◌, ◌++◌, map, length, get_or, take, drop, set, filter, sym, refl, ap, ◌∙◌, subst, arith, length-append}
-use Rattle.std.proofs.lemmas.List.{append_assoc, append-nil, take_more_set, drop-set-lt, drop-drop, length-map, length-take-le}
-use Rattle.model.specs.Model.{OpM}
-use Rattle.uses.specs.Listing.{uses_in, uses_from}
-use Rattle.uses.proofs.Kept.{kept_yes, kept_no, rows_more, rows_none}
+-- Steps of a loop that fills a list of the caller from its front with the uses of x, row by row.
+use Rattle.std.proofs.Common.{◌≡◌, ℕ, ◌+◌, ◌<◌, ◌≤◌, Bool, true, false, List, [], ◌∷◌, ◌++◌, map, length, get_or, take, drop, set, vec_items, sym, ap, ◌∙◌, subst, arith}
+use Rattle.std.proofs.lemmas.List.{append_assoc, append-nil, take_more_set, drop-set-lt, drop-drop}
+use Rattle.ir.specs.declared.value.Use.{Use}
+use Rattle.rows.specs.declared.operation.Operation.{Operation}
+use Rattle.rows.specs.Of.{op_model}
+use Rattle.book.specs.declared.book.Book.{Book}
+use Rattle.book.specs.Of.{model_of}
+use Rattle.uses.specs.Places.{PlaceKind, use_by}
+use Rattle.uses.specs.Listing.{uses_in, uses_from, uses_of}
+use Rattle.uses.proofs.Kept.{kept_yes, kept_no, kept_none, rows_more, rows_none}
 
--- of the list `all`, what is not left stands in the first `end` places of `out`, which began as `before`
-pub record Wrote {U : Type 0} (before all : List U) (end : ℕ) (out left : List U) : Type 0 where
-  pub count : end + length left ≡ length all
-  pub front : take end out ++ left ≡ all
-  pub rest : drop end out ≡ drop end before
+-- of the list `all`, what is not left stands in the first n places of `out`, which began as `before`
+pub record Wrote {U : Type 0} (before all : List U) (n : ℕ) (out left : List U) : Type 0 where
+  pub count : n + length left ≡ length all
+  pub front : take n out ++ left ≡ all
+  pub rest : drop n out ≡ drop n before
 
 module _ {U : Type 0} (before all : List U) where
-  -- the list behind a later place
-  later : (out : List U) (n m : ℕ) → drop n out ≡ drop n before → drop (n + m) out ≡ drop (n + m) before
-  later out n m e = sym (drop-drop m n out) ∙ (ap (drop m) e ∙ drop-drop m n before)
-
   -- the same under other names
-  moved : (out after : List U) (end next : ℕ) (left : List U) → after ≡ out → next ≡ end → Wrote before all end out left → Wrote before all next after left
-  moved out after end next left a b w = subst (λ o. Wrote before all next o left) (sym a) (subst (λ n. Wrote before all n out left) (sym b) w)
+  moved : (out after : List U) (n next : ℕ) (left : List U) → after ≡ out → next ≡ n → Wrote before all n out left → Wrote before all next after left
+  moved out after n next left a b w = subst (λ o. Wrote before all next o left) (sym a) (subst (λ k. Wrote before all k out left) (sym b) w)
 
-  put : (out : List U) (end : ℕ) (y : U) (ys : List U) → Wrote before all end out (y ∷ ys) → end < length out → Wrote before all (end + 1) (set out end y) ys
-  put out end y ys w h = record {
+  put : (out : List U) (n : ℕ) (y : U) (ys : List U) → Wrote before all n out (y ∷ ys) → n < length out → Wrote before all (n + 1) (set out n y) ys
+  put out n y ys w h = record {
     count = omega (arith, w.count);
-    front = ap (λ zs. zs ++ ys) (take_more_set out end y h) ∙ (append_assoc (take end out) (y ∷ []) ys ∙ w.front);
-    rest = drop-set-lt (end + 1) out end y (omega arith) ∙ later out end 1 w.rest;
+    front = ap (λ zs. zs ++ ys) (take_more_set out n y h) ∙ (append_assoc (take n out) (y ∷ []) ys ∙ w.front);
+    rest = drop-set-lt (n + 1) out n y (omega arith) ∙ (sym (drop-drop 1 n out) ∙ (ap (drop 1) w.rest ∙ drop-drop 1 n before));
   }
 
-  pub wrote_all : (out : List U) (end : ℕ) (left : List U) → left ≡ [] → Wrote before all end out left → (end ≡ length all) × (take end out ≡ all)
-  wrote_all out end left e w =
-      (omega (arith, w.count, ap length e), sym (append-nil (take end out)) ∙ (ap (λ zs. take end out ++ zs) (sym e) ∙ w.front))
+  wrote_all : (out : List U) (n : ℕ) (left : List U) → left ≡ [] → Wrote before all n out left → (n ≡ length all) × (take n out ≡ all)
+  wrote_all out n left e w =
+      (omega (arith, w.count, ap length e), sym (append-nil (take n out)) ∙ (ap (λ zs. take n out ++ zs) (sym e) ∙ w.front))
 
-  -- a part xs of what is left was written from n to r
-  pub wrote_part : (out after : List U) (n r : ℕ) (xs ys : List U) → r ≡ n + length xs → take r after ≡ take n out ++ xs → drop r after ≡ drop r out → Wrote before all n out (xs ++ ys) → Wrote before all r after ys
-  wrote_part out after n r xs ys e f g w =
-      let l = length-append xs ys in record {
-        count = omega (arith, w.count);
-        front = ap (λ zs. zs ++ ys) f ∙ (append_assoc (take n out) xs ys ∙ w.front);
-        rest = g ∙ subst (λ k. drop k out ≡ drop k before) (sym e) (later out n (length xs) w.rest);
-      }
+module _ {P H : Type 0} (kind : PlaceKind P H) (x : H) (before : List (Use P)) (os : List Operation) where
+  -- the uses of the rows from the i-th on
+  abbrev later : ℕ → List (Use P)
+  later i = uses_from kind x i (drop i (map op_model os))
 
-  -- the places of one row
-  module _ {P : Type 0} (test : P → Bool) (f : P → U) (ps : List P) (i : ℕ) where
-    pub fill_yes : (out after : List U) (end next : ℕ) (p : P) (r : Bool) (y : U) → i < length ps → p ≡ get_or ps i p → r ≡ test p → r ≡ true → y ≡ f p → after ≡ set out end y → next ≡ end + 1 → end < length out → Wrote before all end out (map f (filter test (drop i ps))) → Wrote before all next after (map f (filter test (drop (i + 1) ps)))
-    fill_yes out after end next p r y h e s t q a b l w =
-        let k = ap (map f) (kept_yes test ps i p r h e s t) ∙ ap (λ z. z ∷ map f (filter test (drop (i + 1) ps))) (sym q) in
-        moved (set out end y) after (end + 1) next _ a b (put out end y _ (subst (Wrote before all end out) k w) l)
+  -- all but the uses of the rows from the i-th on stand in the first n places
+  abbrev pub WroteRows : ℕ → ℕ → List (Use P) → Type 0
+  WroteRows i n out = Wrote before (later 0) n out (later i)
 
-    pub fill_no : (out after : List U) (end next : ℕ) (p : P) (r : Bool) → i < length ps → p ≡ get_or ps i p → r ≡ test p → r ≡ false → after ≡ out → next ≡ end → Wrote before all end out (map f (filter test (drop i ps))) → Wrote before all next after (map f (filter test (drop (i + 1) ps)))
-    fill_no out after end next p r h e s t a b w =
-        moved out after end next _ a b (subst (λ ks. Wrote before all end out (map f ks)) (kept_no test ps i p r h e s t) w)
+  -- all but those of the i-th row's places ps from the k-th on, and of the rows behind it
+  abbrev pub WrotePlaces : ℕ → List P → ℕ → ℕ → List (Use P) → Type 0
+  WrotePlaces i ps k n out = Wrote before (later 0) n out (uses_in kind x i (drop k ps) ++ later (i + 1))
 
-module _ {P U : Type 0} (test : P → Bool) (f : P → U) (before : List U) (n : ℕ) (ps : List P) (few : n + length (filter test ps) ≤ length before) where
-  -- how long the list is that the uses of one row make with the front of the list
-  pub length_all : length (take n before ++ map f (filter test ps)) ≡ n + length (filter test ps)
-  length_all = omega (arith, length-append (take n before) (map f (filter test ps)), length-take-le n before (omega arith), length-map (filter test ps) f)
+  -- the rows are those of the book b
+  all_of : (b : Book) → os ≡ vec_items b.ops.rows → later 0 ≡ uses_of kind (model_of b) x
+  all_of b is = ap (λ ys. uses_from kind x 0 (map op_model ys)) is
 
-  pub wrote_none : Wrote before (take n before ++ map f (filter test ps)) n before (map f (filter test ps))
-  wrote_none = record { count = omega (arith, length_all, length-map (filter test ps) f); front = refl; rest = refl }
+  -- at the i-th row
+  module _ (i : ℕ) (ps : List P) where
+    pub row_start : (o : Operation) → i < length os → o ≡ get_or os i o → ps ≡ kind.places (op_model o) → (n : ℕ) (out : List (Use P)) → WroteRows i n out → WrotePlaces i ps 0 n out
+    row_start o h e is n out w =
+        subst (Wrote before (later 0) n out)
+        (rows_more op_model kind x os i o h e ∙ ap (λ qs. uses_in kind x i qs ++ later (i + 1)) (sym is)) w
 
-  -- there is a place for the use that was found
-  pub room : (i : ℕ) (out : List U) (end : ℕ) (p : P) (r : Bool) → i < length ps → p ≡ get_or ps i p → r ≡ test p → r ≡ true → length out ≡ length before → Wrote before (take n before ++ map f (filter test ps)) end out (map f (filter test (drop i ps))) → end < length out
-  room i out end p r h e s t l w = omega (arith, length_all, w.count, ap (λ ks. length (map f ks)) (kept_yes test ps i p r h e s t))
+    pub row_end : (k n : ℕ) (out : List (Use P)) → length ps ≤ k → WrotePlaces i ps k n out → WroteRows (i + 1) n out
+    row_end k n out h w = subst (λ qs. Wrote before (later 0) n out (map (use_by kind i) qs ++ later (i + 1))) (kept_none (kind.test x) ps k h) w
 
--- row by row: xs are the rows, which f sees as their models
-module _ {X P U : Type 0} (f : X → OpM) (places : OpM → List P) (test : P → Bool) (made : ℕ → P → U) (before : List U) (xs : List X) where
-  -- before the first row
-  pub rows_start : Wrote before (uses_from places test made 0 (map f xs)) 0 before (uses_from places test made 0 (map f xs))
-  rows_start = record { count = omega arith; front = refl; rest = refl }
+    -- at its k-th place, which is p
+    module _ (k : ℕ) (p : P) (h : k < length ps) (e : p ≡ get_or ps k p) (r : Bool) (s : r ≡ kind.test x p) (n : ℕ) (out : List (Use P)) (w : WrotePlaces i ps k n out) where
+      -- its use comes next
+      next : r ≡ true → Wrote before (later 0) n out (use_by kind i p ∷ (uses_in kind x i (drop (k + 1) ps) ++ later (i + 1)))
+      next t = subst (λ qs. Wrote before (later 0) n out (map (use_by kind i) qs ++ later (i + 1))) (kept_yes (kind.test x) ps k p r h e s t) w
 
-  -- at the row x, whose places are ps
-  module _ (i : ℕ) (x : X) (ps : List P) (h : i < length xs) (e : x ≡ get_or xs i x) (is : ps ≡ places (f x)) (out : List U) (n : ℕ) (w : Wrote before (uses_from places test made 0 (map f xs)) n out (uses_from places test made i (drop i (map f xs)))) where
-    ahead : uses_from places test made i (drop i (map f xs)) ≡ uses_in test made i ps ++ uses_from places test made (i + 1) (drop (i + 1) (map f xs))
-    ahead = subst (λ qs. uses_from places test made i (drop i (map f xs)) ≡ uses_in test made i qs ++ uses_from places test made (i + 1) (drop (i + 1) (map f xs))) (sym is) (rows_more f places test made xs i x h e)
+      -- and there is a place for it
+      pub room : r ≡ true → (b : Book) → os ≡ vec_items b.ops.rows → length (uses_of kind (model_of b) x) ≤ length out → n < length out
+      room t b is few = omega (arith, (next t).count, ap length (all_of b is), few)
 
-    -- there is room for its uses
-    pub rows_room : (zs : List X) → xs ≡ zs → length (uses_from places test made 0 (map f zs)) ≤ length before → length out ≡ length before → n + length (filter test ps) ≤ length out
-    rows_room zs s few l =
-        let q = ap (λ ys. length (uses_from places test made 0 (map f ys))) s in
-        let b = length-append (uses_in test made i ps) (uses_from places test made (i + 1) (drop (i + 1) (map f xs))) in
-        omega (arith, w.count, ap length ahead, length-map (filter test ps) (made i))
+      pub place_yes : r ≡ true → (b : Book) → os ≡ vec_items b.ops.rows → length (uses_of kind (model_of b) x) ≤ length out → (after : List (Use P)) (m : ℕ) (y : Use P) → y ≡ use_by kind i p → after ≡ set out n y → m ≡ n + 1 → WrotePlaces i ps (k + 1) m after
+      place_yes t b is few after m y q c d =
+          moved before (later 0) (set out n y) after (n + 1) m _ c d
+          (put before (later 0) out n y _ (subst (λ z. Wrote before (later 0) n out (z ∷ (uses_in kind x i (drop (k + 1) ps) ++ later (i + 1)))) (sym q) (next t)) (room t b is few))
 
-    -- and they were written
-    pub rows_wrote : (after : List U) (r : ℕ) → r ≡ n + length (filter test ps) → take r after ≡ take n out ++ uses_in test made i ps → drop r after ≡ drop r out → Wrote before (uses_from places test made 0 (map f xs)) r after (uses_from places test made (i + 1) (drop (i + 1) (map f xs)))
-    rows_wrote after r a b d =
-        wrote_part before (uses_from places test made 0 (map f xs)) out after n r (uses_in test made i ps) (uses_from places test made (i + 1) (drop (i + 1) (map f xs)))
-        (omega (arith, length-map (filter test ps) (made i))) b d (subst (Wrote before (uses_from places test made 0 (map f xs)) n out) ahead w)
+      pub place_no : (after : List (Use P)) (m : ℕ) → r ≡ false → after ≡ out → m ≡ n → WrotePlaces i ps (k + 1) m after
+      place_no after m t a b =
+          moved before (later 0) out after n m _ a b (subst (λ qs. Wrote before (later 0) n out (map (use_by kind i) qs ++ later (i + 1))) (kept_no (kind.test x) ps k p r h e s t) w)
 
   -- behind the last row
-  pub rows_end : (i : ℕ) → length xs ≤ i → (zs : List X) → xs ≡ zs → (out : List U) (n : ℕ) → Wrote before (uses_from places test made 0 (map f xs)) n out (uses_from places test made i (drop i (map f xs))) → (n ≡ length (uses_from places test made 0 (map f zs))) × (take n out ≡ uses_from places test made 0 (map f zs))
-  rows_end i h zs s out n w =
-      let a = wrote_all before (uses_from places test made 0 (map f xs)) out n (uses_from places test made i (drop i (map f xs))) (rows_none f places test made xs i h) w in
-      let q = ap (λ ys. uses_from places test made 0 (map f ys)) s in
-      (a.0 ∙ ap length q, a.1 ∙ q)
+  pub rows_end : (i : ℕ) → length os ≤ i → (b : Book) → os ≡ vec_items b.ops.rows → (n : ℕ) (out : List (Use P)) → WroteRows i n out → (n ≡ length (uses_of kind (model_of b) x)) × (take n out ≡ uses_of kind (model_of b) x)
+  rows_end i h b is n out w =
+      let a = wrote_all before (later 0) out n (later i) (rows_none op_model kind x os i h) w in
+      (a.0 ∙ ap length (all_of b is), a.1 ∙ all_of b is)

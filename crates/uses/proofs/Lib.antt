@@ -1,4 +1,3 @@
-pub mod Finds
 pub mod Kept
 pub mod Few
 pub mod Fills

@@ -1,4 +1,4 @@
+pub mod Places
 pub mod Find
 pub mod Listing
 pub mod Values
-pub mod Blocks

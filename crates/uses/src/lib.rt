@@ -1,13 +1,11 @@
-// Values, and the uses of values and blocks. Start with value.rt and operand_use.rt; specs/Listing.antt says what a list of
-// uses is. What values and blocks have in common stands in place.rt and listing.rt.
+// Values, and the uses of values and blocks. Start with value.rt, one_use.rt and listing.rt; specs/Listing.antt says what a list
+// of uses is. What values and blocks have in common stands in place.rt.
 #![tactic(auto)]
 
-pub mod basic_block;
-pub mod block_use;
 pub mod error;
-mod find;
-mod listing;
-mod lookup;
-pub mod operand_use;
-mod place;
+pub mod listing;
+pub mod one_use;
+mod operand;
+pub mod place;
+mod successor;
 pub mod value;

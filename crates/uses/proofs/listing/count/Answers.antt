@@ -1,32 +1,20 @@
-use Rattle.std.proofs.Common.{map, length, ap, arith}
-use Rattle.rows.specs.Of.{op_model}
-use Rattle.uses.specs.Listing.{uses_from}
-use Rattle.uses.proofs.Few.{few_rows, few_places}
-use Rattle.uses.proofs.Kept.{kept_few, count_more, rows_none}
+use Rattle.std.proofs.Common.{rules, of_calls, ◌∙◌}
+use Rattle.std.proofs.lemmas.Iterator.{YieldsList-from_slice, YieldsList-from_map}
+use Rattle.std.proofs.lemmas.Iterator.Consumers.{sum_by_from_yields_List, fits_by_from_yields_list}
+use Rattle.uses.proofs.Few.{found_in, found_all, found_fit}
 use Rattle.uses.proofs.listing.count.Goals as goal
 
-pub overflow_add-n : goal.overflow_add-n
-overflow_add-n g c =
-    omega (
-      arith,
-      few_rows g.P.UsePlace.places g.met.P.UsePlace.few c.args.book.now c.as_slice-rows.result.now c.as_slice-rows.ensures.value,
-      few_places g.P.UsePlace.places g.met.P.UsePlace.few c.args.book.now c.as_slice-rows.result.now c.as_slice-rows.ensures.value c.loop-o.o-index c.o-item.result c.loop-o-test.true c.o-item.is,
-      kept_few (g.P.UsePlace.test c.args.x) c.of.result.now,
-      ap length c.of.ensures,
-    )
-
-pub loop-o-preserved : goal.loop-o-preserved
-loop-o-preserved g c = (
-  count_more op_model g.P.UsePlace.places (g.P.UsePlace.test c.args.x) g.P.UsePlace.made c.as_slice-rows.result.now c.loop-o.o-index c.o-item.result c.of.result.now c.count_in-n.result c.loop-o.n _ c.loop-o-test.true c.o-item.is c.of.ensures c.count_in-n.ensures c.loop-o.invariant.0,
-  omega (
-    arith,
-    few_places g.P.UsePlace.places g.met.P.UsePlace.few c.args.book.now c.as_slice-rows.result.now c.as_slice-rows.ensures.value c.loop-o.o-index c.o-item.result c.loop-o-test.true c.o-item.is,
-    kept_few (g.P.UsePlace.test c.args.x) c.of.result.now,
-    ap length c.of.ensures,
-  ),
-)
+pub sum-requires : goal.sum-requires
+sum-requires g c = record {
+  can = search of_calls;
+  finite = search of_calls;
+  fits = fits_by_from_yields_list _ _ c.map.result _
+      (YieldsList-from_map _ (found_in g.P.UsePlace.kind c.args.x) (YieldsList-from_slice c.as_slice-rows.result.now cc) c.map.ensures.closure (λ x r q k. search rules))
+      (found_fit g.P.UsePlace.kind c.args.x c.args.book.now c.as_slice-rows.result.now c.as_slice-rows.ensures.value g.met.P.UsePlace.few);
+}
 
 pub returns : goal.returns
 returns g c =
-    let z = rows_none op_model g.P.UsePlace.places (g.P.UsePlace.test c.args.x) g.P.UsePlace.made c.as_slice-rows.result.now c.loop-o.o-index c.loop-o-test.false in
-    omega (arith, ap length z, c.loop-o.invariant.0, ap (λ ys. length (uses_from g.P.UsePlace.places (g.P.UsePlace.test c.args.x) g.P.UsePlace.made 0 (map op_model ys))) c.as_slice-rows.ensures.value)
+    sum_by_from_yields_List _ _ c.map.result _ c.sum.ensures.ran
+    (YieldsList-from_map _ (found_in g.P.UsePlace.kind c.args.x) (YieldsList-from_slice c.as_slice-rows.result.now cc) c.map.ensures.closure (λ x r q k. search rules)) ∙
+    found_all g.P.UsePlace.kind c.args.x c.args.book.now c.as_slice-rows.result.now c.as_slice-rows.ensures.value
