@@ -1,3 +1,3 @@
 pub mod Types
-pub mod Verified
 pub mod Fed
+pub mod Ranges

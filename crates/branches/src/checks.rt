@@ -8,13 +8,14 @@ use kinds::fault::Fault;
 use kinds::range::IndexRange;
 
 // each type in order
+#[tactic(auto, using(crate::proofs::Types::operands_end, crate::proofs::Types::arguments_end))]
 fn check_types(part: &[Operand], args: &[Definition]) -> Result<(), Fault>
     requires { length part.now ≡ length args.now }
     ensures { result ≡ types_check 0 part.now args.now }
 {
-    for j in 0..args.len() {
-        if part[j].ty != args[j].ty {
-            return Err(Fault::SuccessorOperandTypeMismatch(j, part[j].ty, args[j].ty));
+    for (j, (x, d)) in part.iter().zip(args).enumerate() {
+        if x.ty != d.ty {
+            return Err(Fault::SuccessorOperandTypeMismatch(j, x.ty, d.ty));
         }
     }
     Ok(())
@@ -26,9 +27,7 @@ pub fn check_part(operands: &[Operand], range: IndexRange, args: &[Definition]) 
     requires within { range.end ≤ length operands.now }
     ensures { result ≡ part_check (between range.start range.end operands.now) args.now }
 {
-    let start = range.start;
-    let end = range.end;
-    let part = &operands[start..end];
+    let part = &operands[range.start..range.end];
     if part.len() != args.len() {
         return Err(Fault::SuccessorOperandsMismatch(part.len(), args.len()));
     }

@@ -1,11 +1,11 @@
 // Branch verification over any family: the layout, then each successor in order.
-ghost use Rattle.std.specs.Prelude.{◌≡◌, ◌<◌, true, length, Ok, Decides};
+ghost use Rattle.std.specs.Prelude.{◌≡◌, true, Ok, Decides};
 ghost use Rattle.book.specs.Of.{model_of};
-ghost use Rattle.kinds.specs.Family.{Accepted as LayoutAccepted};
-ghost use Rattle.kinds.specs.declared.fault.Verdict.TheVariants.{Accepted};
-ghost use Rattle.kinds.specs.Seen.{seen};
+ghost use Rattle.kinds.specs.Family.{Accepted as LayoutAccepted, SuccessorThere};
+ghost use Rattle.kinds.specs.Verdict.{accepted};
+ghost use Rattle.pages.specs.Seen.{seen};
 ghost use Rattle.branches.specs.Branch.{successors_check, successor_check, branch_check};
-ghost use Rattle.branches.specs.Verdicts.{judged, verify_branch_of, verdict_of, EveryAccepted, FeedsBlocks};
+ghost use Rattle.branches.specs.Verdicts.{judged, branch_verdict_of, verify_branch_of, verdict_of, EveryAccepted, FeedsBlocks};
 
 use crate::checks::check_part;
 use book::book::Book;
@@ -13,11 +13,10 @@ use ir::location::Location;
 use ir::refusal::Refusal;
 use kinds::fault::{Fault, Rejection, Verdict};
 use kinds::interfaces::BranchOpInterface;
-use kinds::page::OpPage;
+use pages::page::OpPage;
 
 fn check_successor<F: BranchOpInterface>(fam: &F, page: &OpPage<'_>, s: usize) -> Result<(), Fault>
-    requires accepted { LayoutAccepted (F.BranchOpInterface.branching fam.now) (seen page.now) }
-    requires there { s < length (seen page.now).successors }
+    requires { SuccessorThere (F.BranchOpInterface.branching fam.now) (seen page.now) s }
     ensures { result ≡ successor_check (F.BranchOpInterface.branching fam.now) (seen page.now) s }
 {
     fam.shown_branches();
@@ -41,10 +40,35 @@ fn check_branch<F: BranchOpInterface>(fam: &F, page: &OpPage<'_>) -> Result<(), 
     requires { (F.BranchOpInterface.branching fam.now).branches (seen page.now).kind ≡ true }
     ensures { result ≡ branch_check (F.BranchOpInterface.branching fam.now) (seen page.now) }
 {
-    match fam.successor_operand_layout(page) {
-        Err(code) => Err(Fault::Layout(code)),
-        Ok(()) => check_successors(fam, page),
+    fam.successor_operand_layout(page).map_err(Fault::Layout)?;
+    check_successors(fam, page)
+}
+
+// a fault is told with the operation and its location
+fn judge(op: usize, location: Location, checked: Result<(), Fault>) -> Verdict
+    ensures { result ≡ judged op location checked }
+{
+    checked.map_err(|fault| Rejection {
+        op,
+        location,
+        fault,
+    })
+}
+
+// the verdict of the branch check, where the operation's kind is a branch: 1
+fn branch_verdict<F: BranchOpInterface>(
+    fam: &F,
+    book: &Book,
+    op: usize,
+) -> Result<Option<Verdict>, Refusal>
+    ensures { result ≡ branch_verdict_of (F.BranchOpInterface.branching fam.now) (model_of book.now) op }
+{
+    let row = book.op(op)?;
+    let page = OpPage::of(book, op)?;
+    if !fam.is_branch(page.kind()) {
+        return Ok(None);
     }
+    Ok(Some(judge(op, row.location, check_branch(fam, &page))))
 }
 
 // what the branch check says of the operation: 1, 6. Where it accepts, the blocks get what their arguments ask for
@@ -54,16 +78,11 @@ pub fn verify_branch<F: BranchOpInterface>(
     op: usize,
 ) -> Result<Verdict, Refusal>
     ensures value { result ≡ verify_branch_of (F.BranchOpInterface.branching fam.now) (model_of book.now) op }
-    ensures feeds { result ≡ Ok Accepted → FeedsBlocks (F.BranchOpInterface.branching fam.now) (model_of book.now) op }
+    ensures feeds { result ≡ Ok accepted → FeedsBlocks (F.BranchOpInterface.branching fam.now) (model_of book.now) op }
 {
     book.sound();
     fam.shown_branches();
-    let row = book.op(op)?;
-    let page = OpPage::of(book, op)?;
-    if !fam.is_branch(page.kind()) {
-        return Err(Refusal::NoInterface);
-    }
-    Ok(judge(op, row.location, check_branch(fam, &page)))
+    branch_verdict(fam, book, op)?.ok_or(Refusal::NoInterface)
 }
 
 // what verification says of the operation, by the checks that its kind has: 1
@@ -74,44 +93,12 @@ pub fn verify_operation<F: BranchOpInterface>(
 ) -> Result<Verdict, Refusal>
     ensures { result ≡ verdict_of (F.BranchOpInterface.branching fam.now) (model_of book.now) op }
 {
-    let row = book.op(op)?;
-    let page = OpPage::of(book, op)?;
-    if !fam.is_branch(page.kind()) {
-        return Ok(Verdict::Accepted);
-    }
-    Ok(judge(op, row.location, check_branch(fam, &page)))
+    Ok(branch_verdict(fam, book, op)?.unwrap_or(Ok(())))
 }
 
 // whether every operation is accepted
 pub fn all_accepted<F: BranchOpInterface>(fam: &F, book: &Book) -> bool
     ensures { Decides result (EveryAccepted (F.BranchOpInterface.branching fam.now) (model_of book.now)) }
 {
-    for i in 0..book.num_ops() {
-        if !accepted(fam, book, i) {
-            return false;
-        }
-    }
-    true
-}
-
-fn accepted<F: BranchOpInterface>(fam: &F, book: &Book, op: usize) -> bool
-    ensures { Decides result (verdict_of (F.BranchOpInterface.branching fam.now) (model_of book.now) op ≡ Ok Accepted) }
-{
-    match verify_operation(fam, book, op) {
-        Ok(Verdict::Accepted) => true,
-        _ => false,
-    }
-}
-
-fn judge(op: usize, location: Location, checked: Result<(), Fault>) -> Verdict
-    ensures { result ≡ judged op location checked }
-{
-    match checked {
-        Ok(()) => Verdict::Accepted,
-        Err(fault) => Verdict::Rejected(Rejection {
-            op,
-            location,
-            fault,
-        }),
-    }
+    (0..book.num_ops()).all(|op| matches!(verify_operation(fam, book, op), Ok(Ok(()))))
 }

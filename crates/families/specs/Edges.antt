@@ -1,5 +1,5 @@
 -- The edges of a region kind: what a family says of them, and the duties that it shows.
-use Rattle.std.specs.Prelude.{◌≡◌, ℕ, ◌<◌, ◌≤◌, Bool, true, ◌⊎◌, List, [], length, Some, Ok, Result}
+use Rattle.std.specs.Prelude.{◌≡◌, ℕ, ◌<◌, ◌≤◌, Bool, true, ◌⊎◌, List, [], length, take, drop, Some, Ok, Result}
 use Rattle.std.specs.Option.{unwrap_or}
 use Rattle.std.specs.List.{slice_get}
 use Rattle.ir.specs.Limits.{Limits}
@@ -10,6 +10,7 @@ use Rattle.ir.specs.declared.value.Value.{Value}
 use Rattle.model.specs.Model.{BookM, type_of}
 use Rattle.model.specs.Sound.{Sound}
 use Rattle.pages.specs.Page.{Page, InnerP, page, InnerOn}
+use Rattle.ir.specs.declared.refusal.LayoutCode.{LayoutCode}
 use Rattle.families.specs.declared.edge.RegionBranchPoint.{RegionBranchPoint}
 use Rattle.families.specs.declared.edge.RegionBranchPoint.TheVariants.{Parent, Terminator}
 use Rattle.families.specs.declared.edge.RegionSuccessor.{RegionSuccessor}
@@ -22,7 +23,7 @@ pub record Edge : Type 0 where
   pub from : RegionBranchPoint
   pub to : RegionSuccessor
   pub flows : List Flow
-  pub reads : List Use
+  pub reads : List (Use Operand)
 
 -- an edge without its lists
 abbrev pub ends_of : Edge → EdgeEnds
@@ -38,7 +39,7 @@ edge_at es i = unwrap_or (slice_get es i) no_edge
 -- which kinds have region edges; whether such a layout is accepted, or the code; the edges
 pub record Regional : Type 0 where
   pub has : ℕ → Bool
-  pub layout : Page → Result (Unit {0}) ℕ
+  pub layout : Page → Result (Unit {0}) LayoutCode
   pub edges : Page → List Edge
 
 -- a region kind whose edge layout is accepted
@@ -46,12 +47,25 @@ pub record EdgesAccepted (r : Regional) (p : Page) : Type 0 where
   pub has : r.has p.kind ≡ true
   pub layout : r.layout p ≡ Ok tt
 
+-- edge i of a region kind whose edge layout is accepted
+pub record EdgeThere (r : Regional) (p : Page) (i : ℕ) : Type 0 where
+  pub accepted : EdgesAccepted r p
+  pub there : i < length (r.edges p)
+
+abbrev pub edge_of : Regional → Page → ℕ → Edge
+edge_of r p i = edge_at (r.edges p) i
+
+-- the list was written to the front of what was there
+pub record Written {X : Type 0} (xs old new : List X) : Type 0 where
+  pub front : take (length xs) new ≡ xs
+  pub rest : drop (length xs) new ≡ drop (length xs) old
+
 -- the operands of the operation with this row, which the page shows: its own, or those of one directly in its regions
 abbrev pub OperandsOn : Page → ℕ → List Operand → Type 0
 OperandsOn p row os = ((p.row ≡ row) × (p.operands ≡ os)) ⊎ ((t : InnerP) × InnerOn p t × (t.row ≡ row) × (t.operands ≡ os))
 
 -- the use belongs to the page: some operand place on it is this use
-pub record UseOn (p : Page) (u : Use) : Type 0 where
+pub record UseOn (p : Page) (u : Use Operand) : Type 0 where
   pub operands : List Operand
   pub place : ℕ
   pub operand : Operand
@@ -79,7 +93,7 @@ pub record EdgeIn (E : EdgeLimits) (m : BookM) (i : ℕ) (e : Edge) : Type 0 whe
   pub to : TargetIn m e.to
   pub operands : (j : ℕ) (f : Flow) → slice_get e.flows j ≡ Some f → UseOn (page m i) f.operand
   pub receivers : (j : ℕ) (f : Flow) → slice_get e.flows j ≡ Some f → ValueIn m f.receiver
-  pub reads : (j : ℕ) (u : Use) → slice_get e.reads j ≡ Some u → UseOn (page m i) u
+  pub reads : (j : ℕ) (u : Use Operand) → slice_get e.reads j ≡ Some u → UseOn (page m i) u
 
 -- where an edge layout is accepted there are few edges, and in a sound book each of them is as `EdgeIn` says
 pub record RegionLaws (L : Limits) (E : EdgeLimits) (r : Regional) : Type 0 where

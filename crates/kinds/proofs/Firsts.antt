@@ -1,7 +1,12 @@
 -- A loop over checks: it goes on while each check passes, and stops at the first fault.
-use Rattle.std.proofs.Common.{◌≡◌, ℕ, zero, suc, ◌+◌, ◌<◌, Ok, Err, sym, refl, ap, ◌∙◌, ⊎_elim, add-one, arith}
+use Rattle.std.proofs.Common.{◌≡◌, ℕ, zero, suc, ◌+◌, ◌<◌, Ok, Err, sym, refl, ap, ◌∙◌, ⊎_elim, add-one, arith, rules}
 use Rattle.std.proofs.lemmas.Bool.{cases_lt}
 use Rattle.kinds.specs.First.{Check, both, first_of}
+
+-- what passed together passed each
+pub both_passed : {E : Type 0} (c d : Check E) → both c d ≡ Ok tt → (c ≡ Ok tt) × (d ≡ Ok tt)
+both_passed (Ok tt) d h = (refl, h)
+both_passed (Err e) d h = absurd (search rules)
 
 module _ {E : Type 0} (f : ℕ → Check E) where
   pub first_more : (i : ℕ) → first_of f i ≡ Ok tt → f i ≡ Ok tt → first_of f (i + 1) ≡ Ok tt
@@ -22,12 +27,6 @@ module _ {E : Type 0} (f : ℕ → Check E) where
   -- what passed as a whole passed at each place
   pub first_each : (n i : ℕ) → first_of f n ≡ Ok tt → i < n → f i ≡ Ok tt
   first_each zero i h l = absurd (omega arith)
-  first_each (suc n) i h l = ⊎_elim (λ lt. first_each n i (passed_left (first_of f n) (f n) h) lt) (λ ge. let same : n ≡ i = omega arith in rw (← same) (passed_right (first_of f n) (f n) h)) (cases_lt i n)
-    where
-      passed_left : (c d : Check E) → both c d ≡ Ok tt → c ≡ Ok tt
-      passed_left (Ok _) d h = refl
-      passed_left (Err e) d h = h
-
-      passed_right : (c d : Check E) → both c d ≡ Ok tt → d ≡ Ok tt
-      passed_right (Ok _) d h = h
-      passed_right (Err e) d h = absurd (let z : ◌≡◌ {A = ℕ} 0 1 = cc in omega arith)
+  first_each (suc n) i h l =
+      let p = both_passed (first_of f n) (f n) h in
+      ⊎_elim (λ lt. first_each n i p.0 lt) (λ ge. let same : n ≡ i = omega arith in rw (← same) p.1) (cases_lt i n)

@@ -1,4 +1,3 @@
 pub mod First
-pub mod Page
-pub mod Seen
+pub mod Verdict
 pub mod Family

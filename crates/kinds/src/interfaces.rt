@@ -1,10 +1,12 @@
 // What a family of kinds answers. Each trait has a ghost meaning, a function of kind and page alone; asking answers by it and changes nothing.
-ghost use Rattle.std.specs.Prelude.{◌≡◌, ℕ, ◌<◌, Bool, true, length};
-ghost use Rattle.kinds.specs.Family.{Branching, Accepted, BranchLaws};
-ghost use Rattle.kinds.specs.Seen.{seen};
+// Kinds are asked for by their byte and not by `Kind`, since families are open: any byte is a kind of some family.
+ghost use Rattle.std.specs.Prelude.{◌≡◌, ℕ, Bool, true};
+ghost use Rattle.kinds.specs.Family.{Branching, SuccessorThere, BranchLaws};
+ghost use Rattle.pages.specs.Seen.{seen};
 
-use crate::page::OpPage;
 use crate::range::IndexRange;
+use ir::refusal::LayoutCode;
+use pages::page::OpPage;
 
 // Which kinds end a block.
 pub trait IsTerminatorInterface {
@@ -27,15 +29,14 @@ pub trait BranchOpInterface: IsTerminatorInterface {
         ensures ends { result ≡ true → Self.IsTerminatorInterface.terminates self.now kind ≡ true };
 
     // accepted, or the family's code
-    fn successor_operand_layout(&self, page: &OpPage<'_>) -> Result<(), u8>
+    fn successor_operand_layout(&self, page: &OpPage<'_>) -> Result<(), LayoutCode>
         requires { (branching self.now).branches (seen page.now).kind ≡ true }
         ensures value { result ≡ (branching self.now).layout (seen page.now) }
         ensures ends { Self.IsTerminatorInterface.terminates self.now (seen page.now).kind ≡ true };
 
     // the operands that go to successor s
     fn successor_operand_range(&self, page: &OpPage<'_>, s: usize) -> IndexRange
-        requires accepted { Accepted (branching self.now) (seen page.now) }
-        requires there { s < length (seen page.now).successors }
+        requires { SuccessorThere (branching self.now) (seen page.now) s }
         ensures value { result ≡ (branching self.now).range (seen page.now) s }
         ensures ends { Self.IsTerminatorInterface.terminates self.now (seen page.now).kind ≡ true };
 }

@@ -6,10 +6,11 @@ use book::book::Book;
 mod inner;
 mod own;
 
-// the operation that the page is of is in the book
+// The operation that the page is of is in the book. Clauses see the page through `seen` and no `impl Model`, since a page is copied, which a
+// type with a lifetime and a model cannot be.
 #[derive(Clone, Copy)]
 pub struct OpPage<'a> {
     book: &'a Book,
     op: usize,
-    ghost within: { op < vec_len book.now.ops },
+    ghost within: { op < vec_len book.now.ops.rows },
 }

@@ -6,7 +6,7 @@ ghost use Rattle.std.specs.List.{slice_get};
 ghost use Rattle.pages.specs.Page.{region_page, block_page, inner_page, region_of, block_of, last_of};
 ghost use Rattle.pages.specs.Seen.{seen, book_of};
 
-use crate::by_number::{block_args, block_ops, op_kind, op_operands, place, region_blocks};
+use crate::by_number::{block_args, block_ops, op_kind, op_operands, region_blocks};
 use crate::page::OpPage;
 use ir::value::{Definition, Operand};
 
@@ -21,27 +21,21 @@ impl<'a> OpPage<'a> {
     fn region_at(&self, k: usize) -> Option<usize>
         ensures { option_map (region_page (book_of self.now)) result ≡ slice_get (seen self.now).regions k }
     {
-        place(self.region_rows(), k)
+        self.region_rows().get(k).copied()
     }
 
     pub fn region_row(&self, k: usize) -> usize
         ensures { result ≡ (region_of (seen self.now) k).row }
     {
-        match self.region_at(k) {
-            Some(r) => r,
-            None => 0,
-        }
+        self.region_at(k).unwrap_or(0)
     }
 
     // the rows of the blocks of region k
-    fn block_rows(&self, k: usize) -> &[usize]
-        ensures value { map (block_page (book_of self.now)) result.now ≡ (region_of (seen self.now) k).blocks }
-        ensures count { length result.now ≡ length (region_of (seen self.now) k).blocks }
+    fn block_rows(&self, k: usize) -> &'a [usize]
+        ensures { map (block_page (book_of self.now)) result.now ≡ (region_of (seen self.now) k).blocks }
     {
-        match self.region_at(k) {
-            Some(r) => region_blocks(self.book, r),
-            None => &[],
-        }
+        self.region_at(k)
+            .map_or(&[], |r| region_blocks(self.book, r))
     }
 
     pub fn num_blocks(&self, k: usize) -> usize
@@ -54,58 +48,37 @@ impl<'a> OpPage<'a> {
     fn block_at(&self, k: usize, b: usize) -> Option<usize>
         ensures { option_map (block_page (book_of self.now)) result ≡ slice_get (region_of (seen self.now) k).blocks b }
     {
-        place(self.block_rows(k), b)
+        self.block_rows(k).get(b).copied()
     }
 
     pub fn block_row(&self, k: usize, b: usize) -> usize
         ensures { result ≡ (block_of (seen self.now) k b).row }
     {
-        match self.block_at(k, b) {
-            Some(x) => x,
-            None => 0,
-        }
+        self.block_at(k, b).unwrap_or(0)
     }
 
-    pub fn block_args(&self, k: usize, b: usize) -> &[Definition]
+    pub fn block_args(&self, k: usize, b: usize) -> &'a [Definition]
         ensures { result.now ≡ (block_of (seen self.now) k b).args }
     {
-        match self.block_at(k, b) {
-            Some(x) => block_args(self.book, x),
-            None => &[],
-        }
+        self.block_at(k, b)
+            .map_or(&[], |x| block_args(self.book, x))
     }
 
     // the rows of the operations in block b of region k
-    fn op_rows(&self, k: usize, b: usize) -> &[usize]
+    fn op_rows(&self, k: usize, b: usize) -> &'a [usize]
         ensures { map (inner_page (book_of self.now)) result.now ≡ (block_of (seen self.now) k b).ops }
     {
-        match self.block_at(k, b) {
-            Some(x) => block_ops(self.book, x),
-            None => &[],
-        }
-    }
-
-    // the row of operation j in block b of region k, where there is one
-    fn op_at(&self, k: usize, b: usize, j: usize) -> Option<usize>
-        ensures { option_map (inner_page (book_of self.now)) result ≡ slice_get (block_of (seen self.now) k b).ops j }
-    {
-        place(self.op_rows(k, b), j)
-    }
-
-    fn num_ops(&self, k: usize, b: usize) -> usize
-        ensures { result ≡ length (block_of (seen self.now) k b).ops }
-    {
-        self.op_rows(k, b).len()
+        self.block_at(k, b).map_or(&[], |x| block_ops(self.book, x))
     }
 
     // the row of the last operation in block b of region k
     pub fn last_op(&self, k: usize, b: usize) -> Option<usize>
         ensures { option_map (inner_page (book_of self.now)) result ≡ last_of (block_of (seen self.now) k b) }
     {
-        self.op_at(k, b, self.num_ops(k, b).saturating_sub(1))
+        self.op_rows(k, b).last().copied()
     }
 
-    // the kind of the operation with row t, which the page shows
+    // the kind of the operation with row t, which the page shows: a byte, as families are open
     pub fn kind_of(&self, t: usize) -> u8
         ensures { result ≡ (inner_page (book_of self.now) t).kind }
     {
@@ -113,7 +86,7 @@ impl<'a> OpPage<'a> {
     }
 
     // its operands
-    pub fn operands_of(&self, t: usize) -> &[Operand]
+    pub fn operands_of(&self, t: usize) -> &'a [Operand]
         ensures { result.now ≡ (inner_page (book_of self.now) t).operands }
     {
         op_operands(self.book, t)

@@ -1,6 +1,6 @@
 use Rattle.std.proofs.Common.{◌≡◌, Ok}
 use Rattle.kinds.specs.First.{first_of}
-use Rattle.kinds.specs.Seen.{seen}
+use Rattle.pages.specs.Seen.{seen}
 use Rattle.branches.specs.Branch.{successor_check}
 use Rattle.branches.proofs.verify.check_successors.Given as goal
 
