@@ -33,6 +33,11 @@ abbrev pub Says : {A B : Type 0} → (Text → Option A) → (B → A) → Expec
 Says f said expected word (Ok x) = f word.text.now ≡ Some (said x)
 Says f said expected word (Err e) = (f word.text.now ≡ None) × (e ≡ Malformed (record { found = word.span; expected = expected }))
 
+-- no word is left, or P holds of the next
+abbrev pub MatchFirst : List Text → (Text → Type 0) → Type 0
+MatchFirst [] P = Unit {0}
+MatchFirst (w ∷ ws) P = P w
+
 -- no word is left, or the next begins a section
 abbrev pub NoItem : List Text → Type 0
 NoItem [] = Unit {0}

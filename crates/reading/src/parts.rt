@@ -1,68 +1,126 @@
-// What the next word says, which has to be there.
-ghost use Rattle.text.specs.Indices.{name_text};
+// The parts of a statement. A part with a type of its own is read as itself; `At`, `Regions` and `In` only name what is read.
+ghost use Rattle.text.specs.Indices.{indexed_of};
 ghost use Rattle.text.specs.Kinds.{kind_of};
 ghost use Rattle.text.specs.Names.{name_of};
-ghost use Rattle.reading.specs.Grammar.{first};
 ghost use Rattle.reading.specs.Items.{at_of, count_of, in_of};
-ghost use Rattle.reading.specs.Readings.{Read};
-ghost use Rattle.reading.specs.Targets.{target_of, target_said};
+ghost use Rattle.reading.specs.Targets.{target_of};
 ghost use Rattle.reading.specs.declared.problem.Expected.TheVariants as wanted;
 
-use crate::items;
-use crate::problem::{Expected, ReadError, blame};
-use crate::taking::need;
+use crate::item::Item;
+use crate::problem::Expected;
 use crate::target::Target;
 use ir::location::Location;
-use text::cursor::Words;
-use text::kinds::{KindWord, kind_word};
+use text::indexed::Indexed;
+use text::kinds::KindWord;
 use text::locations::location;
 use text::names::Name;
-use text::words::is_text;
+use text::numbers::number;
 
-pub fn name(words: &mut Words) -> Result<Name, ReadError>
-    ensures { Read (first name_of wanted.Name) name_text words.old words.new result }
-{
-    items::name(need(words, Expected::Name)?)
-}
+// Four impls that differ only in type: each names its own words of the grammar, and no macro of the repository may write an impl.
+impl Item for Name {
+    type Said = Name;
 
-pub fn kind(words: &mut Words) -> Result<KindWord, ReadError>
-    ensures { Read (first kind_of wanted.Kind) (λ k. k) words.old words.new result }
-{
-    let word = need(words, Expected::Kind)?;
-    kind_word(word.text).ok_or(blame(word, Expected::Kind))
-}
+    const EXPECTED: Expected = Expected::Name;
 
-pub fn place(words: &mut Words) -> Result<Option<Location>, ReadError>
-    ensures { Read (first at_of wanted.Location) (λ l. l) words.old words.new result }
-{
-    let word = need(words, Expected::Location)?;
-    match location(word.text) {
-        Some(at) => Ok(Some(at)),
-        None => Err(blame(word, Expected::Location)),
+    ghost EXPECTED = { wanted.Name };
+
+    ghost said = { name_of };
+
+    fn read(word: &[u8]) -> Option<Name> {
+        Name::new(word)
     }
 }
 
-pub fn count(words: &mut Words) -> Result<usize, ReadError>
-    ensures { Read (first count_of wanted.Count) (λ n. n) words.old words.new result }
-{
-    items::count(need(words, Expected::Count)?, usize::MAX, Expected::Count)
+impl Item for KindWord {
+    type Said = KindWord;
+
+    const EXPECTED: Expected = Expected::Kind;
+
+    ghost EXPECTED = { wanted.Kind };
+
+    ghost said = { kind_of };
+
+    fn read(word: &[u8]) -> Option<KindWord> {
+        KindWord::new(word)
+    }
 }
 
-pub fn target(words: &mut Words) -> Result<Target, ReadError>
-    ensures { Read (first target_of wanted.Target) target_said words.old words.new result }
-{
-    let word = need(words, Expected::Target)?;
-    Target::new(word.text).ok_or(blame(word, Expected::Target))
+// a value: a result of an operation or an argument of a block
+impl Item for Indexed {
+    type Said = Indexed;
+
+    const EXPECTED: Expected = Expected::Value;
+
+    ghost EXPECTED = { wanted.Value };
+
+    ghost said = { indexed_of };
+
+    fn read(word: &[u8]) -> Option<Indexed> {
+        Indexed::new(word)
+    }
+}
+
+impl Item for Target {
+    type Said = Target;
+
+    const EXPECTED: Expected = Expected::Target;
+
+    ghost EXPECTED = { wanted.Target };
+
+    ghost said = { target_of };
+
+    fn read(word: &[u8]) -> Option<Target> {
+        Target::new(word)
+    }
+}
+
+// Where an operation was written: a location that is said.
+pub struct At;
+
+impl Item for At {
+    type Said = Option<Location>;
+
+    const EXPECTED: Expected = Expected::Location;
+
+    ghost EXPECTED = { wanted.Location };
+
+    ghost said = { at_of };
+
+    fn read(word: &[u8]) -> Option<Option<Location>> {
+        location(word).map(Some)
+    }
+}
+
+// How many regions an operation has.
+pub struct Regions;
+
+impl Item for Regions {
+    type Said = usize;
+
+    const EXPECTED: Expected = Expected::Count;
+
+    ghost EXPECTED = { wanted.Count };
+
+    ghost said = { count_of };
+
+    fn read(word: &[u8]) -> Option<usize> {
+        number(word, usize::MAX)
+    }
 }
 
 // The word `in`.
-pub fn word_in(words: &mut Words) -> Result<(), ReadError>
-    ensures { Read (first in_of wanted.In) (λ u. u) words.old words.new result }
-{
-    let word = need(words, Expected::In)?;
-    if is_text(word.text, b"in") {
-        Ok(())
-    } else {
-        Err(blame(word, Expected::In))
+pub struct In;
+
+impl Item for In {
+    type Said = ();
+
+    const EXPECTED: Expected = Expected::In;
+
+    ghost EXPECTED = { wanted.In };
+
+    ghost said = { in_of };
+
+    fn read(word: &[u8]) -> Option<()> {
+        (word == b"in".as_slice()).then_some(())
     }
 }

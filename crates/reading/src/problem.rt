@@ -1,15 +1,16 @@
 // Why a line is not a statement: the word that is wrong, and what should stand in its place.
-ghost use Rattle.std.specs.Prelude.{◌≡◌, ◌+◌, ◌-◌, ◌^◌, ◌≤◌, min, length};
+ghost use Rattle.std.specs.Prelude.{◌≡◌, ◌+◌, ◌-◌, ◌^◌, ◌≤◌, min, length, Some};
 ghost use Rattle.text.specs.Reading.{part};
 ghost use Rattle.reading.specs.declared.problem.ReadError.TheVariants.{Memory};
 ghost use Rattle.reading.specs.Phrases.{phrase_of};
 
 use std::alloc::AllocFailed;
+use std::fmt;
 use text::cursor::Word;
 use text::words::Span;
 
 // What should stand in the place of a word.
-#[derive(Clone, Copy)]
+#[derive(Clone, Copy, PartialEq, Eq)]
 pub enum Expected {
     Statement,
     Name,
@@ -48,8 +49,16 @@ impl Expected {
     }
 }
 
+impl fmt::Display for Expected {
+    ghost output = { λ expected. Some (phrase_of expected) };
+
+    fn fmt<W: fmt::Write>(&self, f: &mut fmt::Formatter<W>) -> fmt::Result {
+        f.write_str(self.phrase())
+    }
+}
+
 // The word that is wrong, which is empty at the end of the line, and what should stand there.
-#[derive(Clone, Copy)]
+#[derive(Clone, Copy, PartialEq, Eq)]
 pub struct Problem {
     pub found: Span,
     pub expected: Expected,
@@ -67,18 +76,12 @@ impl Problem {
     pub fn text(self, line: &[u8]) -> &[u8]
         ensures { self.found.start ≤ self.found.end → self.found.end ≤ length line.now → result.now ≡ part line.now self.found }
     {
-        let start = self.found.start;
-        let end = self.found.end;
-        if start <= end && end <= line.len() {
-            &line[start..end]
-        } else {
-            &[]
-        }
+        line.get(self.found.start..self.found.end).unwrap_or(&[])
     }
 }
 
 // Why no statement was read.
-#[derive(Clone, Copy)]
+#[derive(Clone, Copy, PartialEq, Eq)]
 pub enum ReadError {
     Malformed(Problem),
     Memory,

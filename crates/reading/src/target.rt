@@ -1,12 +1,12 @@
 // Where something is placed: an operation in a block, or a block in a region, which has an index.
-ghost use Rattle.std.specs.Prelude.{◌≡◌};
-ghost use Rattle.std.specs.Option.{option_map};
-ghost use Rattle.reading.specs.Targets.{target_of, target_said};
+ghost use Rattle.std.specs.Prelude.{◌≡◌, Some};
+ghost use Rattle.reading.specs.Targets.{shown, target_of};
 
+use std::fmt;
 use text::indexed::Indexed;
 use text::names::Name;
 
-#[derive(Clone, Copy)]
+#[derive(Clone, Copy, PartialEq, Eq)]
 pub enum Target {
     Block(Name),
     Region(Indexed),
@@ -14,11 +14,21 @@ pub enum Target {
 
 impl Target {
     pub fn new(word: &[u8]) -> Option<Target>
-        ensures { option_map target_said result ≡ target_of word.now }
+        ensures { result ≡ target_of word.now }
     {
-        match Indexed::new(word) {
-            Some(region) => Some(Target::Region(region)),
-            None => Some(Target::Block(Name::new(word)?)),
+        Indexed::new(word)
+            .map(Target::Region)
+            .or_else(|| Name::new(word).map(Target::Block))
+    }
+}
+
+impl fmt::Display for Target {
+    ghost output = { λ target. Some (shown target) };
+
+    fn fmt<W: fmt::Write>(&self, f: &mut fmt::Formatter<W>) -> fmt::Result {
+        match self {
+            Target::Block(name) => name.fmt(f),
+            Target::Region(region) => region.fmt(f),
         }
     }
 }

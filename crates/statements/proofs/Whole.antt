@@ -64,9 +64,9 @@ statement_whole (w ∷ ws) =
     (cond_whole (bytes_eq w (codes "op")) _ _ (saying_whole op _ (op_whole ws))
     (cond_whole (bytes_eq w (codes "place")) _ _ (saying_whole place _ (place_whole ws)) tt)))
 
--- the line has a word, and its statement was read
-pub whole_said : (ws : List Text) (w : Text) (after rest : List Text) (s : StatementSaid) → ws ≡ w ∷ after → statement_line ws ≡ Ok (s, rest) → whole_line ws ≡ Ok (Some s, [])
-whole_said [] w after rest s some e = cc
-whole_said (v ∷ vs) w after rest s some e =
-    let no_more : rest ≡ [] = subst Whole e (statement_whole (v ∷ vs)) in
+-- a statement that was read is all that the line says
+pub whole_said : (ws rest : List Text) (s : StatementSaid) → statement_line ws ≡ Ok (s, rest) → whole_line ws ≡ Ok (Some s, [])
+whole_said [] rest s e = cc
+whole_said (w ∷ ws) rest s e =
+    let no_more : rest ≡ [] = subst Whole e (statement_whole (w ∷ ws)) in
     rw (e, no_more) refl

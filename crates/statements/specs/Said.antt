@@ -1,10 +1,10 @@
--- What a statement says, in plain lists: a name is its bytes.
-use Rattle.std.specs.Prelude.{ℕ, List, map, vec_items, Option}
+-- What a statement says, in plain lists.
+use Rattle.std.specs.Prelude.{ℕ, List, vec_items, Option}
 use Rattle.ir.specs.declared.location.Location.{Location}
-use Rattle.text.specs.Indices.{indexed_said, name_text}
+use Rattle.text.specs.declared.indexed.Indexed.{Indexed}
 use Rattle.text.specs.declared.kinds.KindWord.{KindWord}
 use Rattle.reading.specs.Grammar.{Text}
-use Rattle.reading.specs.Targets.{TargetSaid, target_said}
+use Rattle.reading.specs.declared.target.Target.{Target}
 use Rattle.statements.specs.declared.statement.BlockLine.{BlockLine}
 use Rattle.statements.specs.declared.statement.OpLine.{OpLine}
 use Rattle.statements.specs.declared.statement.PlaceLine.{PlaceLine}
@@ -19,31 +19,31 @@ pub record OpSaid : Type 0 where
   pub kind : KindWord
   pub location : Option Location
   pub results : List ℕ
-  pub operands : List (Text × ℕ)
+  pub operands : List Indexed
   pub successors : List Text
   pub regions : ℕ
 
 pub record PlaceSaid : Type 0 where
   pub name : Text
-  pub target : TargetSaid
+  pub target : Target
 
 abbrev pub types_said : TypesLine → List ℕ
 types_said line = vec_items line.ids
 
 abbrev pub block_said : BlockLine → BlockSaid
-block_said line = record { name = name_text line.name; arguments = vec_items line.arguments }
+block_said line = record { name = line.name; arguments = vec_items line.arguments }
 
 abbrev pub op_said : OpLine → OpSaid
 op_said line =
     record {
-      name = name_text line.name;
+      name = line.name;
       kind = line.kind;
       location = line.location;
       results = vec_items line.results;
-      operands = map indexed_said (vec_items line.operands);
-      successors = map name_text (vec_items line.successors);
+      operands = vec_items line.operands;
+      successors = vec_items line.successors;
       regions = line.regions;
     }
 
 abbrev pub place_said : PlaceLine → PlaceSaid
-place_said line = record { name = name_text line.name; target = target_said line.target }
+place_said line = record { name = line.name; target = line.target }

@@ -2,6 +2,7 @@
 use Rattle.std.specs.Prelude.{ℕ, List, [], None, Ok, codes, Option}
 use Rattle.ir.specs.declared.location.Location.{Location}
 use Rattle.text.specs.Indices.{indexed_of}
+use Rattle.text.specs.declared.indexed.Indexed.{Indexed}
 use Rattle.text.specs.Kinds.{kind_of}
 use Rattle.text.specs.Names.{name_of}
 use Rattle.reading.specs.Grammar.{Text, Parsed, and_then, first, none, many, section}
@@ -20,7 +21,7 @@ location_section ws = section (codes "at") (first at_of wanted.Location) None ws
 abbrev pub results_section : List Text → Parsed (List ℕ)
 results_section ws = section (codes "results") (many handle_of wanted.TypeHandle) [] ws
 
-abbrev pub operands_section : List Text → Parsed (List (Text × ℕ))
+abbrev pub operands_section : List Text → Parsed (List Indexed)
 operands_section ws = section (codes "operands") (many indexed_of wanted.Value) [] ws
 
 abbrev pub successors_section : List Text → Parsed (List Text)

@@ -8,20 +8,19 @@ use reading::problem::{Expected, ReadError, blame};
 use reading::taking::need;
 use std::alloc::Global;
 use text::cursor::Words;
-use text::words::is_text;
 
 // The statement whose word comes next.
 pub fn statement(heap: Global, words: &mut Words) -> Result<Statement, ReadError>
     ensures { Read statement_line statement_said words.old words.new result }
 {
     let word = need(words, Expected::Statement)?;
-    if is_text(word.text, b"types") {
+    if word.text == b"types".as_slice() {
         Ok(Statement::Types(parse::types(heap, words)?))
-    } else if is_text(word.text, b"block") {
+    } else if word.text == b"block".as_slice() {
         Ok(Statement::Block(parse::block(heap, words)?))
-    } else if is_text(word.text, b"op") {
+    } else if word.text == b"op".as_slice() {
         Ok(Statement::Op(parse::op(heap, words)?))
-    } else if is_text(word.text, b"place") {
+    } else if word.text == b"place".as_slice() {
         Ok(Statement::Place(parse::place(words)?))
     } else {
         Err(blame(word, Expected::Statement))
@@ -34,8 +33,8 @@ pub fn read_line(heap: Global, line: &[u8]) -> Result<Option<Statement>, ReadErr
 {
     let mut words = Words::new(line);
     let mut ahead = words;
-    match ahead.next() {
-        Some(_) => Ok(Some(statement(heap, &mut words)?)),
-        None => Ok(None),
+    if ahead.next().is_none() {
+        return Ok(None);
     }
+    Ok(Some(statement(heap, &mut words)?))
 }

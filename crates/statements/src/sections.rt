@@ -1,65 +1,37 @@
-// The sections of an operation, each of which may be absent.
-ghost use Rattle.std.specs.Prelude.{map};
-ghost use Rattle.text.specs.Indices.{indexed_said, name_text};
+// The sections of an operation, each of which begins with its own word and may be absent.
+ghost use Rattle.std.specs.Prelude.{[]};
+ghost use Rattle.reading.specs.Grammar.{first, many, section};
 ghost use Rattle.reading.specs.Readings.{Read};
-ghost use Rattle.statements.specs.Statements.{location_section, results_section, operands_section, successors_section, regions_section};
 
-use crate::lists::{handles, names, values};
-use ir::location::Location;
-use reading::parts::{count, place};
+use crate::lists::list;
+use reading::item::{Item, next};
 use reading::problem::ReadError;
 use reading::taking::eat;
 use std::alloc::Global;
 use text::cursor::Words;
-use text::indexed::Indexed;
-use text::names::Name;
 
-pub fn at(words: &mut Words) -> Result<Option<Location>, ReadError>
-    ensures { Read location_section (λ l. l) words.old words.new result }
+// A section of one word, or what its absence says.
+pub fn single<T: Item>(words: &mut Words, key: &[u8], absent: T::Said) -> Result<T::Said, ReadError>
+    ensures { Read (section key.now (first T.said T.EXPECTED) absent) (λ s. s) words.old words.new result }
 {
-    if eat(words, b"at") {
-        place(words)
+    if eat(words, key) {
+        next::<T>(words)
     } else {
-        Ok(None)
+        Ok(absent)
     }
 }
 
-pub fn results(heap: Global, words: &mut Words) -> Result<Vec<usize>, ReadError>
-    ensures { Read results_section (λ v. v.items) words.old words.new result }
+// A section of a list, which is empty where it is absent.
+pub fn listed<T: Item>(
+    heap: Global,
+    words: &mut Words,
+    key: &[u8],
+) -> Result<Vec<T::Said>, ReadError>
+    ensures { Read (section key.now (many T.said T.EXPECTED) []) (λ v. v.items) words.old words.new result }
 {
-    if eat(words, b"results") {
-        handles(heap, words)
+    if eat(words, key) {
+        list::<T>(heap, words)
     } else {
         Ok(Vec::new(heap))
-    }
-}
-
-pub fn operands(heap: Global, words: &mut Words) -> Result<Vec<Indexed>, ReadError>
-    ensures { Read operands_section (λ v. map indexed_said v.items) words.old words.new result }
-{
-    if eat(words, b"operands") {
-        values(heap, words)
-    } else {
-        Ok(Vec::new(heap))
-    }
-}
-
-pub fn successors(heap: Global, words: &mut Words) -> Result<Vec<Name>, ReadError>
-    ensures { Read successors_section (λ v. map name_text v.items) words.old words.new result }
-{
-    if eat(words, b"successors") {
-        names(heap, words)
-    } else {
-        Ok(Vec::new(heap))
-    }
-}
-
-pub fn regions(words: &mut Words) -> Result<usize, ReadError>
-    ensures { Read regions_section (λ n. n) words.old words.new result }
-{
-    if eat(words, b"regions") {
-        count(words)
-    } else {
-        Ok(0)
     }
 }

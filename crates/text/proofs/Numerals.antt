@@ -2,7 +2,7 @@
 use Rattle.std.proofs.Common.{◌≡◌, ℕ, ◌+◌, ◌-◌, ◌*◌, ◌<◌, ◌≤◌, Bool, true, false, cond, ◌&&◌, leb, List, [], ◌∷◌, length, get_or, drop, IfSome, Some, None, Option, refl, arith}
 use Rattle.std.proofs.lemmas.List.{at_drop_more, at_drop_all}
 use Rattle.std.proofs.lemmas.Bool.{le-leb, lt-leb, leb-true, leb-false, and_parts, cond_both}
-use Rattle.text.specs.Bytes.{all_of}
+use Rattle.std.specs.List.{list_all}
 use Rattle.text.specs.Numbers.{digit, followed_by, value, value_after, numeral, number_of}
 
 abbrev pub and_on : Option ℕ → (ℕ → Option ℕ) → Option ℕ
@@ -19,14 +19,14 @@ grows n [] = omega arith
 grows n (b ∷ bs) = omega (arith, grows (n * 10 + (b - 48)) bs)
 
 abbrev within : ℕ → ℕ → List ℕ → Option ℕ
-within most n bs = cond (all_of digit bs && leb (value_after n bs) most) (Some (value_after n bs)) None
+within most n bs = cond (list_all digit bs && leb (value_after n bs) most) (Some (value_after n bs)) None
 
 -- the bytes after a first one that is a digit or is not, and keeps the number small or does not
-step : (most m : ℕ) (bs : List ℕ) (d small : Bool) → (small ≡ true → read most m bs ≡ within most m bs) → (small ≡ false → leb (value_after m bs) most ≡ false) → and_on (cond (d && small) (Some m) None) (λ k. read most k bs) ≡ cond (d && all_of digit bs && leb (value_after m bs) most) (Some (value_after m bs)) None
+step : (most m : ℕ) (bs : List ℕ) (d small : Bool) → (small ≡ true → read most m bs ≡ within most m bs) → (small ≡ false → leb (value_after m bs) most ≡ false) → and_on (cond (d && small) (Some m) None) (λ k. read most k bs) ≡ cond (d && list_all digit bs && leb (value_after m bs) most) (Some (value_after m bs)) None
 step most m bs false small same large = refl
 step most m bs true true same large = same refl
 step most m bs true false same large =
-    rw (large refl) (elim (all_of digit bs) as (λ v. ◌≡◌ {A = Option ℕ} None (cond (v && false) (Some (value_after m bs)) None)) [ true ↦ refl | false ↦ refl ])
+    rw (large refl) (elim (list_all digit bs) as (λ v. ◌≡◌ {A = Option ℕ} None (cond (v && false) (Some (value_after m bs)) None)) [ true ↦ refl | false ↦ refl ])
 
 pub read_is : (most n : ℕ) (bs : List ℕ) → n ≤ most → read most n bs ≡ within most n bs
 read_is most n [] h = rw (le-leb n most h) refl

@@ -1,4 +1,3 @@
-pub mod Bytes
 pub mod Words
 pub mod Numbers
 pub mod Names

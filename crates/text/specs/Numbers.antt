@@ -1,6 +1,6 @@
 -- What a decimal number is, and what it says.
 use Rattle.std.specs.Prelude.{ℕ, ◌+◌, ◌-◌, ◌*◌, Bool, false, cond, ◌&&◌, List, [], ◌∷◌, Some, None, Option, nat_le}
-use Rattle.text.specs.Bytes.{all_of}
+use Rattle.std.specs.List.{list_all}
 
 -- `0` to `9`
 abbrev pub digit : ℕ → Bool
@@ -21,7 +21,7 @@ value bs = value_after 0 bs
 -- one digit or more, and nothing else
 abbrev pub numeral : List ℕ → Bool
 numeral [] = false
-numeral (b ∷ bs) = all_of digit (b ∷ bs)
+numeral (b ∷ bs) = list_all digit (b ∷ bs)
 
 -- the number that the bytes write, where it is at most `most`
 abbrev pub number_of : List ℕ → ℕ → Option ℕ

@@ -1,5 +1,5 @@
 -- What is left of a line that is read word by word.
-use Rattle.std.specs.Prelude.{◌≡◌, ℕ, ◌-◌, ◌≤◌, List, [], ◌∷◌, length, take, drop}
+use Rattle.std.specs.Prelude.{◌≡◌, ℕ, ◌-◌, ◌≤◌, List, [], ◌∷◌, length, take, drop, Option, MatchOption}
 use Rattle.text.specs.Words.{words}
 use Rattle.text.specs.declared.cursor.Word.{Word}
 use Rattle.text.specs.declared.cursor.Words.{Words}
@@ -31,3 +31,8 @@ pub record Stands (line : List ℕ) (these : List (List ℕ)) (span : Span) : Ty
 pub record TakesWord (before after : Words) (word : Word) : Type 0 where
   pub first : left before ≡ word.text.now ∷ left after
   pub stands : Stands (line_of before) (left before) word.span
+
+-- the next word is read, or none is left
+pub record Next (before : Words) (word : Option Word) (after : Words) : Type 0 where
+  pub line : line_of after ≡ line_of before
+  pub takes : MatchOption word ((left before ≡ []) × (left after ≡ [])) (TakesWord before after)

@@ -1,13 +1,13 @@
 // A name with an index, as `start.0`: a result of an operation, an argument of a block or a region of an operation.
-ghost use Rattle.std.specs.Prelude.{◌≡◌};
-ghost use Rattle.std.specs.Option.{option_map};
-ghost use Rattle.text.specs.Indices.{indexed_of, indexed_said};
+ghost use Rattle.std.specs.Prelude.{◌≡◌, Some};
+ghost use Rattle.text.specs.Indices.{indexed_of, shown};
 
 use crate::marks::cut;
 use crate::names::Name;
 use crate::numbers::number;
+use std::fmt;
 
-#[derive(Clone, Copy)]
+#[derive(Clone, Copy, PartialEq, Eq)]
 pub struct Indexed {
     pub name: Name,
     pub index: usize,
@@ -15,11 +15,20 @@ pub struct Indexed {
 
 impl Indexed {
     pub fn new(word: &[u8]) -> Option<Indexed>
-        ensures { option_map indexed_said result ≡ indexed_of word.now }
+        ensures { result ≡ indexed_of word.now }
     {
         let (front, back) = cut(b'.', word);
-        let name = Name::new(front)?;
-        let index = number(back, usize::MAX)?;
-        Some(Indexed { name, index })
+        Some(Indexed {
+            name: Name::new(front)?,
+            index: number(back, usize::MAX)?,
+        })
+    }
+}
+
+impl fmt::Display for Indexed {
+    ghost output = { λ indexed. Some (shown indexed) };
+
+    fn fmt<W: fmt::Write>(&self, f: &mut fmt::Formatter<W>) -> fmt::Result {
+        write!(f, "{}.{}", self.name, self.index)
     }
 }

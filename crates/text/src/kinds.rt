@@ -1,64 +1,50 @@
 // Kinds of operations as they are written: `plain`, a name, or any kind by its number.
 ghost use Rattle.std.specs.Prelude.{◌≡◌};
-ghost use Rattle.text.specs.Kinds.{kind_named, kind_of, kind_number};
+ghost use Rattle.text.specs.Kinds.{kind_of, kind_number};
 
 use crate::numbers::number;
-use crate::words::is_text;
 use ir::kind::Kind;
 
-#[derive(Clone, Copy)]
+#[derive(Clone, Copy, PartialEq, Eq)]
 pub enum KindWord {
     Plain,
     Named(Kind),
     Number(u8),
 }
 
+// The words that name a kind.
+const NAMES: [(&'static [u8], KindWord); 7] = [
+    (b"plain", KindWord::Plain),
+    (b"yield", KindWord::Named(Kind::Yield)),
+    (b"br", KindWord::Named(Kind::Br)),
+    (b"cond_br", KindWord::Named(Kind::CondBr)),
+    (b"if", KindWord::Named(Kind::If)),
+    (b"loop", KindWord::Named(Kind::Loop)),
+    (b"switch", KindWord::Named(Kind::Switch)),
+];
+
 impl KindWord {
-    // The number of the kind; that of `plain` is 0.
-    pub fn number(self) -> u8
-        ensures { result ≡ kind_number self }
+    // The kind that the word writes.
+    pub fn new(word: &[u8]) -> Option<KindWord>
+        ensures { result ≡ kind_of word.now }
     {
-        match self {
-            KindWord::Plain => 0,
-            KindWord::Named(kind) => kind.number(),
-            KindWord::Number(n) => n,
+        // a match, since the proof did not reach what the closure of an `or_else` answers
+        match NAMES.iter().find(|(name, _)| word == *name) {
+            Some((_, kind)) => Some(*kind),
+            None => Some(KindWord::Number(number(word, 255)? as u8)),
         }
     }
 }
 
-// The kind that the word writes.
-pub fn kind_word(word: &[u8]) -> Option<KindWord>
-    ensures { result ≡ kind_of word.now }
-{
-    if is_text(word, b"plain") {
-        return Some(KindWord::Plain);
-    }
-    match named_kind(word) {
-        Some(kind) => Some(KindWord::Named(kind)),
-        None => match number(word, 255) {
-            Some(n) => Some(KindWord::Number(n as u8)),
-            None => None,
-        },
-    }
-}
+// The number of the kind; that of `plain` is 0.
+impl From<KindWord> for u8 {
+    ghost from_gives = { λ kind r. r ≡ kind_number kind };
 
-// The kind of this name.
-fn named_kind(word: &[u8]) -> Option<Kind>
-    ensures { result ≡ kind_named word.now }
-{
-    if is_text(word, b"yield") {
-        Some(Kind::Yield)
-    } else if is_text(word, b"br") {
-        Some(Kind::Br)
-    } else if is_text(word, b"cond_br") {
-        Some(Kind::CondBr)
-    } else if is_text(word, b"if") {
-        Some(Kind::If)
-    } else if is_text(word, b"loop") {
-        Some(Kind::Loop)
-    } else if is_text(word, b"switch") {
-        Some(Kind::Switch)
-    } else {
-        None
+    fn from(kind: KindWord) -> u8 {
+        match kind {
+            KindWord::Plain => 0,
+            KindWord::Named(kind) => kind.into(),
+            KindWord::Number(n) => n,
+        }
     }
 }

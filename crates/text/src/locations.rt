@@ -4,7 +4,6 @@ ghost use Rattle.text.specs.Locations.{location_of};
 
 use crate::marks::cut;
 use crate::numbers::number;
-use crate::words::is_text;
 use ir::location::{Location, SourcePosition};
 
 const LARGEST: usize = u32::MAX as usize;
@@ -12,14 +11,12 @@ const LARGEST: usize = u32::MAX as usize;
 pub fn location(word: &[u8]) -> Option<Location>
     ensures { result ≡ location_of word.now }
 {
-    if is_text(word, b"-") {
+    if let b"-" = word {
         return Some(Location::Unknown);
     }
     let (front, back) = cut(b':', word);
-    let line = number(front, LARGEST)?;
-    let column = number(back, LARGEST)?;
     Some(Location::SrcPos(SourcePosition {
-        line: line as u32,
-        column: column as u32,
+        line: number(front, LARGEST)? as u32,
+        column: number(back, LARGEST)? as u32,
     }))
 }

@@ -1,14 +1,9 @@
 // Names of operations and blocks.
-ghost use Rattle.std.specs.Prelude.{◌≡◌, ◌≤◌, true, false, length, take};
-ghost use Rattle.std.specs.Option.{option_map};
-ghost use Rattle.std.specs.Str.{bytes_eq};
-ghost use Rattle.text.specs.Bytes.{all_of};
-ghost use Rattle.text.specs.Names.{in_name, is_name, name_of};
+ghost use Rattle.std.specs.Prelude.{◌≡◌, ◌≤◌, true, length, Some};
+ghost use Rattle.text.specs.Names.{in_name, is_name, name_of, padded};
 
-use crate::numbers::is_digit;
-use crate::words::is_text;
-use std::fmt;
-use std::fmt::Write;
+use std::marker::Model;
+use std::{fmt, str};
 
 pub const LONGEST_NAME: usize = 32;
 
@@ -16,48 +11,58 @@ pub const LONGEST_NAME: usize = 32;
 pub fn is_in_name(b: u8) -> bool
     ensures { result ≡ in_name b }
 {
-    matches!(b, b'A'..=b'Z' | b'a'..=b'z' | b'_') || is_digit(b)
-}
-
-fn all_in_name(bytes: &[u8]) -> bool
-    ensures { result ≡ all_of in_name bytes.now }
-{
-    for b in bytes {
-        if !is_in_name(*b) {
-            return false;
-        }
-    }
-    true
+    b.is_ascii_alphanumeric() || b == b'_'
 }
 
 pub fn is_name(word: &[u8]) -> bool
     ensures { result ≡ is_name word.now }
 {
-    0 < word.len() && word.len() <= LONGEST_NAME && all_in_name(word) && !is_digit(word[0])
+    word.len() <= LONGEST_NAME
+        && word.first().is_some_and(|b| !b.is_ascii_digit())
+        && word.iter().all(|&b| is_in_name(b))
 }
 
+// The word and zeros after it.
 fn padded(word: &[u8]) -> [u8; LONGEST_NAME]
     requires { length word.now ≤ 32 }
-    ensures { take (length word.now) result ≡ word.now }
+    ensures { result ≡ padded word.now }
 {
     let mut bytes = [0; LONGEST_NAME];
-    let size = word.len();
-    bytes[0..size].copy_from_slice(word);
+    bytes[..word.len()].copy_from_slice(word);
     bytes
 }
 
-// A name of its own, which outlives the line that it stood in.
-#[derive(Clone, Copy)]
+// A name of its own, which outlives the line that it stood in. A fixed buffer, since it is handed on in errors, where nothing may be
+// allocated.
+#[derive(Clone, Copy, PartialEq, Eq)]
 pub struct Name {
     bytes: [u8; LONGEST_NAME],
     size: usize,
-    ghost fits: { size ≤ 32 },
-    ghost named: { is_name (take size bytes) ≡ true },
+}
+
+// A name is its text.
+impl Model for Name {
+    ghost use Rattle.std.specs.Prelude.{ℕ, List, length, take};
+    ghost use Rattle.std.proofs.Common.{sym, arith, length-take-le};
+    ghost use Rattle.text.specs.Names.{Holds, padded};
+
+    ghost Value = { List ℕ };
+
+    ghost view = { λ n. take n.size n.bytes };
+
+    ghost invariant = { λ n. Holds n.bytes n.size };
+
+    ghost inverse = { λ t. record { bytes = padded t; size = length t } };
+
+    ghost inverse_ok = { λ n h i. record {
+      bytes = sym h.zeros i;
+      size = length-take-le n.size n.bytes (omega (arith, h.fits, h.whole)) i;
+    } };
 }
 
 impl Name {
     pub fn new(word: &[u8]) -> Option<Name>
-        ensures { option_map (λ n. take n.size n.bytes) result ≡ name_of word.now }
+        ensures { result ≡ name_of word.now }
     {
         if !is_name(word) {
             return None;
@@ -69,25 +74,27 @@ impl Name {
     }
 
     pub fn text(&self) -> &[u8]
-        ensures value { result.now ≡ take self.now.size self.now.bytes }
+        ensures value { result.now ≡ self.now }
         ensures named { is_name result.now ≡ true }
     {
-        let size = self.size;
-        &self.bytes[0..size]
+        &self.bytes[..self.size]
     }
 
-    pub fn same(&self, other: &Name) -> bool
-        ensures { result ≡ bytes_eq (take self.now.size self.now.bytes) (take other.now.size other.now.bytes) }
+    // The same as a `str`, since each byte of a name is below 128.
+    pub fn as_str(&self) -> &str
+        ensures { result.now ≡ self.now }
     {
-        is_text(self.text(), other.text())
+        let Ok(text) = str::from_utf8(self.text()) else {
+            unreachable!();
+        };
+        text
     }
 }
 
 impl fmt::Display for Name {
+    ghost output = { λ name. Some name };
+
     fn fmt<W: fmt::Write>(&self, f: &mut fmt::Formatter<W>) -> fmt::Result {
-        for b in self.text() {
-            f.write_char(*b as char)?;
-        }
-        Ok(())
+        f.write_str(self.as_str())
     }
 }

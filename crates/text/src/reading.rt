@@ -1,6 +1,7 @@
 // How the words of a line are read, one after the other.
-ghost use Rattle.std.specs.Prelude.{◌≡◌, [], MatchOption};
-ghost use Rattle.text.specs.Reading.{line_of, left, Stands, TakesWord};
+ghost use Rattle.std.specs.Prelude.{◌≡◌, [], length};
+ghost use Rattle.std.specs.Iterator.{item_count};
+ghost use Rattle.text.specs.Reading.{line_of, left, Stands, Next};
 ghost use Rattle.text.specs.Words.{words};
 
 use crate::cursor::{Word, Words};
@@ -14,22 +15,6 @@ impl<'a> Words<'a> {
         Words { line, at: 0 }
     }
 
-    // The next word, which is then no longer left.
-    pub fn next(&mut self) -> Option<Word<'a>>
-        ensures line { line_of self.new ≡ line_of self.old }
-        ensures takes { MatchOption result ((left self.old ≡ []) × (left self.new ≡ [])) (TakesWord self.old self.new) }
-    {
-        let line = self.line;
-        let span = next_word(line, self.at)?;
-        let start = span.start;
-        let end = span.end;
-        self.at = end;
-        Some(Word {
-            text: &line[start..end],
-            span,
-        })
-    }
-
     // Where the words end, once none is left.
     pub fn end(&self) -> Span
         ensures { left self.now ≡ [] → Stands (line_of self.now) [] result }
@@ -38,5 +23,23 @@ impl<'a> Words<'a> {
             start: self.at,
             end: self.at,
         }
+    }
+}
+
+// Each word in turn, which is then no longer left.
+impl<'a> Iterator for Words<'a> {
+    type Item = Word<'a>;
+
+    ghost next_gives = { Next };
+
+    ghost remaining = { item_count left };
+
+    fn next(&mut self) -> Option<Word<'a>> {
+        let span = next_word(self.line, self.at)?;
+        self.at = span.end;
+        Some(Word {
+            text: &self.line[span.start..span.end],
+            span,
+        })
     }
 }

@@ -1,20 +1,14 @@
 // Words: the runs of bytes between blanks. `#` begins a comment, which goes to the end of the line.
-ghost use Rattle.std.specs.Prelude.{◌≡◌, ℕ, ◌<◌, ◌≤◌, true, false, length, MatchOption, slice_index};
-ghost use Rattle.std.specs.Str.{bytes_eq};
-ghost use Rattle.text.specs.Words.{blank, in_word, Holds, NextWord, NoWord};
+ghost use Rattle.std.specs.Prelude.{◌≡◌, MatchOption};
+ghost use Rattle.text.specs.Words.{blank, in_word, NextWord, NoWord};
 
-// The bytes of a line from `start` up to `end`.
-#[derive(Clone, Copy)]
+use crate::scan::run;
+
+// The bytes of a line from `start` up to `end`. A struct of its own, since the library's `Range` cannot be copied.
+#[derive(Clone, Copy, PartialEq, Eq)]
 pub struct Span {
     pub start: usize,
     pub end: usize,
-}
-
-// Whether the word is this text.
-pub fn is_text(word: &[u8], text: &[u8]) -> bool
-    ensures { result ≡ bytes_eq word.now text.now }
-{
-    word == text
 }
 
 pub fn is_blank(b: u8) -> bool
@@ -30,43 +24,12 @@ pub fn is_in_word(b: u8) -> bool
     !is_blank(b) && b != b'#'
 }
 
-// Where the blanks that stand at `from` end.
-fn skip_blanks(line: &[u8], from: usize) -> usize
-    ensures after { from ≤ result }
-    ensures within { from < result → result ≤ length line.now }
-    ensures all { Holds blank line.now from result }
-    ensures stops { result < length line.now → blank (slice_index line.now result) ≡ false }
-{
-    let mut at = from;
-    while at < line.len() && is_blank(line[at]) {
-        at += 1;
-    }
-    at
-}
-
-// Where the word that begins at `from` ends.
-fn skip_word(line: &[u8], from: usize) -> usize
-    ensures after { from ≤ result }
-    ensures within { from < result → result ≤ length line.now }
-    ensures all { Holds in_word line.now from result }
-    ensures stops { result < length line.now → in_word (slice_index line.now result) ≡ false }
-{
-    let mut at = from;
-    while at < line.len() && is_in_word(line[at]) {
-        at += 1;
-    }
-    at
-}
-
 // The first word of the line from `from` on.
 pub fn next_word(line: &[u8], from: usize) -> Option<Span>
     ensures { MatchOption result (NoWord line.now from) (NextWord line.now from) }
 {
-    let start = skip_blanks(line, from);
-    let end = skip_word(line, start);
-    if start < end {
-        Some(Span { start, end })
-    } else {
-        None
-    }
+    let rest = line.get(from..)?;
+    let start = from + run(rest, is_blank);
+    let end = start + run(&line[start..], is_in_word);
+    (start < end).then_some(Span { start, end })
 }

@@ -1,5 +1,5 @@
 // Lines that are read, and what is read of them.
-use crate::shown::shown;
+use crate::shown::Shown;
 use reading::problem::ReadError;
 use statements::line::read_line;
 use std::alloc::Global;
@@ -40,8 +40,8 @@ static LINES: [(&'static str, &'static str); 12] = [
 fn reads(rt: &impl Abort, heap: Global, line: &str, says: &str) -> Result<(), Fail> {
     match read_line(heap, line.as_bytes()) {
         Ok(Some(statement)) => {
-            let out = shown(heap, &statement)?;
-            assert_eq!(rt; out.as_slice(), says.as_bytes(), "{}", line);
+            let out = format!(in heap; "{}", Shown(&statement))?;
+            assert_eq!(rt; out.as_str(), says, "{}", line);
             Ok(())
         }
         Ok(None) => {
@@ -49,8 +49,7 @@ fn reads(rt: &impl Abort, heap: Global, line: &str, says: &str) -> Result<(), Fa
             Ok(())
         },
         Err(ReadError::Malformed(problem)) => {
-            let expected = problem.expected.phrase();
-            Err(Fail::new(format_args!("{line}: {expected}")))
+            Err(Fail::new(format_args!("{line}: {}", problem.expected)))
         }
         Err(ReadError::Memory) => Err(Fail::new("no memory")),
     }
