@@ -4,6 +4,7 @@ use ir::value::Value;
 
 #[derive(Drop)]
 pub struct NewOperation {
+    // a byte and not `Kind`: families are open, and any byte is a kind of some family
     pub kind: u8,
     pub location: Location,
     pub result_types: Vec<usize>,
@@ -21,12 +22,4 @@ pub enum Call {
     PlaceOperation(usize, usize),
     // the block, and the region
     PlaceBlock(usize, usize),
-}
-
-// What a granted call did: the row that it made, if it made one.
-#[derive(Clone, Copy)]
-pub enum Done {
-    Operation(usize),
-    Block(usize),
-    Placed,
 }

@@ -1,18 +1,15 @@
 // The verdict of every operation, and whether the program may be loaded.
-use crate::words::{FaultShown, Place};
 use branches::verify::{all_accepted, verify_operation};
-use kinds::fault::Verdict;
+use ir::value::DefiningEntity;
 use session::course::Course;
-use session::names::Row;
 use std::io;
 use timing::family::Timing;
 
 // answers whether the program may be loaded
 pub fn show_board(rt: &HostRuntime, course: &Course) -> io::Result<bool> {
     for entry in course.names.entries() {
-        if let Row::Operation(i) = entry.row {
-            let name = entry.name;
-            print!(rt; "verdict on {name}: ")?;
+        if let DefiningEntity::Op(i) = entry.row {
+            print!(rt; "verdict on {}: ", entry.name)?;
             show_verdict(rt, course, i)?;
         }
     }
@@ -27,12 +24,11 @@ pub fn show_board(rt: &HostRuntime, course: &Course) -> io::Result<bool> {
 
 fn show_verdict(rt: &HostRuntime, course: &Course, i: usize) -> io::Result<()> {
     match verify_operation(&Timing, &course.book, i) {
-        Ok(Verdict::Accepted) => println!(rt; "accepted"),
-        Ok(Verdict::Rejected(rejection)) => {
-            let place = Place(rejection.location);
-            let fault = FaultShown(rejection.fault);
-            println!(rt; "not accepted, line {place}: {fault}")
-        }
+        Ok(Ok(())) => println!(rt; "accepted"),
+        Ok(Err(rejection)) => println!(rt;
+            "not accepted, line {}: {}",
+            rejection.location, rejection.fault
+        ),
         Err(_) => println!(rt; "no such operation"),
     }
 }

@@ -8,7 +8,6 @@ use std::io::Read;
 use std::{env, fs, io};
 
 mod board;
-mod failures;
 mod row_lines;
 mod words;
 
@@ -45,7 +44,7 @@ fn run(rt: &HostRuntime) -> anyhow::Result<()> {
             }
         }
         Err(failure) => {
-            failures::show_failure(rt, &bytes, &failure)?;
+            eprintln!(rt; "{failure}")?;
             Err(anyhow!("the course was not read to its end"))
         }
     }

@@ -1,9 +1,10 @@
 // The rows of a course in readable form. Values are written with their numbers, v0, v1, ..
-use crate::words::{KindShown, Place};
+use crate::words::KindShown;
 use book::book::Book;
+use ir::value::DefiningEntity;
 use rows::basic_block::BasicBlock;
 use rows::operation::Operation;
-use session::names::{Entry, Row};
+use session::names::Entry;
 use std::io;
 
 pub fn show_types(rt: &HostRuntime, book: &Book) -> io::Result<()> {
@@ -14,42 +15,37 @@ pub fn show_types(rt: &HostRuntime, book: &Book) -> io::Result<()> {
     println!(rt; "")
 }
 
+// a name whose row is not in the book shows nothing
 pub fn show_row(rt: &HostRuntime, book: &Book, entry: &Entry) -> io::Result<()> {
     let name = entry.name;
     match entry.row {
-        Row::Operation(i) => match book.op(i) {
-            Ok(o) => {
-                print!(rt; "operation {i} {name}, ")?;
-                show_operation(rt, o)
-            }
-            Err(_) => Ok(()),
-        },
-        Row::Block(b) => match book.block(b) {
-            Ok(x) => {
-                print!(rt; "block {b} {name}")?;
-                show_block(rt, x)
-            }
-            Err(_) => Ok(()),
-        },
+        DefiningEntity::Op(i) => {
+            let Ok(o) = book.op(i) else {
+                return Ok(());
+            };
+            print!(rt; "operation {i} {name}, ")?;
+            show_operation(rt, o)
+        }
+        DefiningEntity::Block(b) => {
+            let Ok(x) = book.block(b) else {
+                return Ok(());
+            };
+            print!(rt; "block {b} {name}")?;
+            show_block(rt, x)
+        }
     }
 }
 
 fn show_operation(rt: &HostRuntime, o: &Operation) -> io::Result<()> {
-    let place = Place(o.location);
-    let kind = KindShown(o.kind);
-    print!(rt; "line {place}: {kind}")?;
+    print!(rt; "line {}: {}", o.location, KindShown(o.kind))?;
     for d in &o.results {
-        let n = d.val_uid;
-        let ty = d.ty;
-        print!(rt; ", result v{n} of type {ty}")?;
+        print!(rt; ", result v{} of type {}", d.val_uid, d.ty)?;
     }
     for x in &o.operands {
-        let n = x.value.val_uid;
-        print!(rt; ", operand v{n}")?;
+        print!(rt; ", operand v{}", x.value.val_uid)?;
     }
     for s in &o.successors {
-        let b = s.block;
-        print!(rt; ", to block {b}")?;
+        print!(rt; ", to block {}", s.block)?;
     }
     for r in &o.regions {
         print!(rt; ", region {r}")?;
@@ -62,9 +58,7 @@ fn show_operation(rt: &HostRuntime, o: &Operation) -> io::Result<()> {
 
 fn show_block(rt: &HostRuntime, x: &BasicBlock) -> io::Result<()> {
     for d in &x.args {
-        let n = d.val_uid;
-        let ty = d.ty;
-        print!(rt; ", argument v{n} of type {ty}")?;
+        print!(rt; ", argument v{} of type {}", d.val_uid, d.ty)?;
     }
     if let Some(r) = x.parent {
         print!(rt; ", in region {r}")?;

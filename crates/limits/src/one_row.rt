@@ -1,113 +1,93 @@
 // The capacities of one operation, one block and the type list.
-use crate::{FIRST, fresh, number};
+use crate::answer::Answer;
+use crate::fresh::{BARE, FIRST, fresh, granted};
 use anyhow::{Context, anyhow};
 use book::book::Book;
 use book::unmade::Unmade;
 use creating::basic_block::new_block;
 use creating::operation::new_operation;
-use ir::location::Location;
+use ir::value::Value;
 use operands::edits::push_operand;
+use rows::operation::new_row::NewOperation;
 use std::alloc::Global;
 
 const ZEROS: [usize; 17] = [0; 17];
 
-fn results(heap: Global, n: usize) -> anyhow::Result<u8> {
-    let mut book = fresh(heap)?;
-    let types = ZEROS.get(0..n).context("too many")?;
-    Ok(number(new_operation(&mut book, 0, Location::Unknown, types, &[], &[], 0)))
+// what such a call answers at each of the sizes
+fn show_sizes<F: Fn(usize) -> anyhow::Result<Answer>>(
+    rt: &HostRuntime,
+    what: &str,
+    sizes: [usize; 4],
+    call: F,
+) -> anyhow::Result<()>
+    requires { F.IsAlwaysCallable call }
+{
+    let [none, short, full, over] = sizes;
+    println!(rt;
+        "{what} {none}, {short}, {full}, {over}: {} {} {} {}",
+        call(none)?,
+        call(short)?,
+        call(full)?,
+        call(over)?
+    )?;
+    Ok(())
 }
 
-fn operands(heap: Global, n: usize) -> anyhow::Result<u8> {
-    let mut book = fresh(heap)?;
-    let values = [FIRST; 33];
-    let values = values.get(0..n).context("too many")?;
-    Ok(number(new_operation(&mut book, 0, Location::Unknown, &[], values, &[], 0)))
+// a new operation in a fresh book
+fn operation(heap: Global, new: NewOperation<'_, Value>) -> anyhow::Result<Answer> {
+    Ok(new_operation(&mut fresh(heap)?, new).into())
 }
 
-fn successors(heap: Global, n: usize) -> anyhow::Result<u8> {
-    let mut book = fresh(heap)?;
-    let blocks = ZEROS.get(0..n).context("too many")?;
-    Ok(number(new_operation(&mut book, 0, Location::Unknown, &[], &[], blocks, 0)))
+fn zeros(n: usize) -> anyhow::Result<&'static [usize]> {
+    ZEROS.get(0..n).context("too many")
 }
 
-fn regions(heap: Global, n: usize) -> anyhow::Result<u8> {
-    let mut book = fresh(heap)?;
-    Ok(number(new_operation(&mut book, 0, Location::Unknown, &[], &[], &[], n)))
-}
-
-fn arguments(heap: Global, n: usize) -> anyhow::Result<u8> {
-    let mut book = fresh(heap)?;
-    let types = ZEROS.get(0..n).context("too many")?;
-    Ok(number(new_block(&mut book, types)))
-}
-
-fn types(heap: Global, n: usize) -> anyhow::Result<u8> {
+fn types(heap: Global, n: usize) -> anyhow::Result<Answer> {
     let ids = [0u16; 257];
     let ids = ids.get(0..n).context("too many")?;
-    match Book::new(heap, ids) {
-        Ok(_) => Ok(0),
-        Err(Unmade::Refused(refusal)) => Ok(refusal.number()),
-        Err(Unmade::Memory) => Err(anyhow!("out of memory")),
-    }
-}
-
-// how many pushes were granted, and what the next one answers
-fn pushes(heap: Global) -> anyhow::Result<(usize, u8)> {
-    let mut book = fresh(heap)?;
-    for granted in 0..100 {
-        let answer = number(push_operand(&mut book, 0, FIRST));
-        if answer != 0 {
-            return Ok((granted, answer));
-        }
-    }
-    Err(anyhow!("no end of pushes"))
+    let made = match Book::new(heap, ids) {
+        Ok(_) => Ok(()),
+        Err(Unmade::Refused(refusal)) => Err(refusal),
+        Err(Unmade::Memory) => return Err(anyhow!("out of memory")),
+    };
+    Ok(made.into())
 }
 
 pub fn show(rt: &HostRuntime) -> anyhow::Result<()> {
     let heap = rt.alloc();
-    println!(rt;
-        "results 0, 7, 8, 9: {} {} {} {}",
-        results(heap, 0)?,
-        results(heap, 7)?,
-        results(heap, 8)?,
-        results(heap, 9)?
-    )?;
-    println!(rt;
-        "operands 0, 31, 32, 33: {} {} {} {}",
-        operands(heap, 0)?,
-        operands(heap, 31)?,
-        operands(heap, 32)?,
-        operands(heap, 33)?
-    )?;
-    println!(rt;
-        "successors 0, 7, 8, 9: {} {} {} {}",
-        successors(heap, 0)?,
-        successors(heap, 7)?,
-        successors(heap, 8)?,
-        successors(heap, 9)?
-    )?;
-    println!(rt;
-        "regions 0, 7, 8, 9: {} {} {} {}",
-        regions(heap, 0)?,
-        regions(heap, 7)?,
-        regions(heap, 8)?,
-        regions(heap, 9)?
-    )?;
-    println!(rt;
-        "arguments 0, 15, 16, 17: {} {} {} {}",
-        arguments(heap, 0)?,
-        arguments(heap, 15)?,
-        arguments(heap, 16)?,
-        arguments(heap, 17)?
-    )?;
-    println!(rt;
-        "types 0, 255, 256, 257: {} {} {} {}",
-        types(heap, 0)?,
-        types(heap, 255)?,
-        types(heap, 256)?,
-        types(heap, 257)?
-    )?;
-    let (granted, answer) = pushes(heap)?;
-    println!(rt; "pushes granted {granted}, then {answer}")?;
+    show_sizes(rt, "results", [0, 7, 8, 9], |n| {
+        let result_types = zeros(n)?;
+        operation(
+            heap,
+            NewOperation {
+                result_types,
+                ..BARE
+            },
+        )
+    })?;
+    show_sizes(rt, "operands", [0, 31, 32, 33], |n| {
+        let values = [FIRST; 33];
+        let operands = values.get(0..n).context("too many")?;
+        operation(heap, NewOperation { operands, ..BARE })
+    })?;
+    show_sizes(rt, "successors", [0, 7, 8, 9], |n| {
+        let successors = zeros(n)?;
+        operation(heap, NewOperation { successors, ..BARE })
+    })?;
+    show_sizes(rt, "regions", [0, 7, 8, 9], |num_regions| {
+        operation(
+            heap,
+            NewOperation {
+                num_regions,
+                ..BARE
+            },
+        )
+    })?;
+    show_sizes(rt, "arguments", [0, 15, 16, 17], |n| {
+        Ok(new_block(&mut fresh(heap)?, zeros(n)?).into())
+    })?;
+    show_sizes(rt, "types", [0, 255, 256, 257], |n| types(heap, n))?;
+    let (pushes, answer) = granted(heap, 100, |book| push_operand(book, 0, FIRST).into())?;
+    println!(rt; "pushes granted {pushes}, then {answer}")?;
     Ok(())
 }

@@ -3,6 +3,8 @@
 
 pub mod course;
 pub mod enter;
+pub mod failure;
+pub mod lines;
 pub mod names;
 pub mod read;
 mod resolve;

@@ -1,24 +1,18 @@
 // The names of a course: each stands for the operation or the block that a line made under it.
 ghost use Rattle.std.specs.Prelude.{◌≡◌, ◌<◌, [], ◌∷◌, ◌++◌, vec_len, vec_capacity, OnOk};
-ghost use Rattle.text.specs.Indices.{name_text};
 ghost use Rattle.session.specs.Names.{row_named};
 
+use ir::value::DefiningEntity;
 use std::alloc::{AllocError, Global};
 use text::names::Name;
 
 #[derive(Clone, Copy)]
-pub enum Row {
-    Operation(usize),
-    Block(usize),
-}
-
-#[derive(Clone, Copy)]
 pub struct Entry {
     pub name: Name,
-    pub row: Row,
+    pub row: DefiningEntity,
 }
 
-// In the order of making.
+// In the order of making, in which they are shown. A list and no index map, which has one entry for a name, where `add` promises one more.
 #[derive(Drop)]
 pub struct Names {
     entries: Vec<Entry>,
@@ -40,10 +34,10 @@ impl Names {
     }
 
     // what the name stands for, if anything
-    pub fn find(&self, name: &Name) -> Option<Row>
-        ensures { result ≡ row_named (name_text name.now) self.now.entries.items }
+    pub fn find(&self, name: &Name) -> Option<DefiningEntity>
+        ensures { result ≡ row_named name.now self.now.entries.items }
     {
-        find_in(self.entries.as_slice(), name)
+        self.entries.iter().find(|e| e.name == *name).map(|e| e.row)
     }
 
     // memory for one name more
@@ -55,21 +49,10 @@ impl Names {
     }
 
     // one name more, for which memory was reserved
-    pub fn add(&mut self, name: Name, row: Row)
+    pub fn add(&mut self, name: Name, row: DefiningEntity)
         requires { vec_len self.old.entries < vec_capacity self.old.entries }
         ensures { self.new.entries.items ≡ self.old.entries.items ++ record { name = name; row = row } ∷ [] }
     {
         self.entries.push_reserved(Entry { name, row });
     }
-}
-
-fn find_in(entries: &[Entry], name: &Name) -> Option<Row>
-    ensures { result ≡ row_named (name_text name.now) entries.now }
-{
-    for e in entries {
-        if e.name.same(name) {
-            return Some(e.row);
-        }
-    }
-    None
 }

@@ -5,5 +5,5 @@ use Rattle.session.proofs.read.go_on.Goals as goal
 pub returns-in-None-Types : goal.returns-in-None-Types
 returns-in-None-Types c = λ _. led_first _ c.begin.result c.begin.ensures
 
-pub returns-in-Ok : goal.returns-in-Ok
-returns-in-Ok c = λ h. led_on c.in-Some-default.course c.in-Ok.field-0 (model_of c.enter.new.course.book) (led_some c.args.course c.in-Some-default.course c.in-Some-default.is-0 h) c.in-Ok.ensures
+pub returns : goal.returns
+returns c = λ h. led_on c.in-Some-default.course c.in_ok-enter-in-Some-default.field-0 (model_of c.enter.new.course.book) (led_some c.args.course c.in-Some-default.course c.in-Some-default.is-0 h) c.in_ok-enter-in-Some-default.ensures
