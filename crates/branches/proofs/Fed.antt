@@ -92,8 +92,8 @@ module _ (t : ℕ → Bool) (b : Branching) (m : BookM) (i : ℕ) (laws : Branch
           let p : slice_get o.body.operands (start + j) ≡ Some e.0 = subst (λ (q : OpM). slice_get q.body.operands (start + j) ≡ Some e.0) row (nth_between (op_at m i).body.operands start end j e.0 within e.1) in
           (e.0, p, sound.operands i (start + j) o e.0 here p ∙ ap Some e.2)
 
-    fed : FeedsBlocks b m i
-    fed = record { count = fed_count; each = λ o k s x j d here aim there a. fed_each o k s x here aim there j d a }
+    pub feeds : FeedsBlocks b m i
+    feeds = record { count = fed_count; each = λ o k s x j d here aim there a. fed_each o k s x here aim there j d a }
 
   -- a verdict that accepts is that of a branch whose check passed
   passed : (r : Result OpM Refusal) (v : Option Verdict) (asked : Bool) (c : Check Fault) → Ok v ≡ map_ok (λ (o : OpM). cond asked (Some (judged i o.body.location c)) None) r → ok_or v NoInterface ≡ Ok accepted → (asked ≡ true) × (c ≡ Ok tt)
@@ -102,5 +102,5 @@ module _ (t : ℕ → Bool) (b : Branching) (m : BookM) (i : ℕ) (laws : Branch
   passed (Ok o) v true (Err f) told a = absurd (search rules)
   passed (Ok o) v false c told a = absurd (search rules)
 
-  pub feeds : (v : Option Verdict) → Ok v ≡ branch_verdict_of b m i → ok_or v NoInterface ≡ Ok accepted → FeedsBlocks b m i
-  feeds v told a = let p = passed (op_row m i) v _ _ told a in fed p.0 p.1
+  pub accepted_feeds : (v : Option Verdict) → Ok v ≡ branch_verdict_of b m i → ok_or v NoInterface ≡ Ok accepted → FeedsBlocks b m i
+  accepted_feeds v told a = let p = passed (op_row m i) v _ _ told a in feeds p.0 p.1

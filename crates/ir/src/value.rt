@@ -1,7 +1,8 @@
 // Values and their uses. Rows are numbered from 0 in the order of their making; values and uses have numbers of their own,
 // each counted from 0 through the whole book and never given twice.
-ghost use Rattle.std.specs.Prelude.{◌≡◌};
+ghost use Rattle.std.specs.Prelude.{◌≡◌, Decides};
 ghost use Rattle.ir.specs.Uses.{use_in};
+ghost use Rattle.ir.specs.Values.{same_entity, same_value};
 
 use std::marker::PhantomData;
 
@@ -67,4 +68,24 @@ impl<P> Use<P> {
 pub struct Pushed {
     pub index: usize,
     pub made: Use<Operand>,
+}
+
+impl DefiningEntity {
+    // whether the two are one row
+    pub fn same(self, other: DefiningEntity) -> bool
+        ensures value { result ≡ same_entity self other }
+        ensures decides { Decides result (self ≡ other) }
+    {
+        self == other
+    }
+}
+
+impl Value {
+    // whether the two are one value
+    pub fn same(self, other: Value) -> bool
+        ensures value { result ≡ same_value self other }
+        ensures decides { Decides result (self ≡ other) }
+    {
+        self.val_uid == other.val_uid && self.defining_entity.same(other.defining_entity)
+    }
 }

@@ -30,7 +30,7 @@ module _ {X : Type 0} where
   nth_append (z ∷ zs) ys zero x h = inl h
   nth_append (z ∷ zs) ys (suc i) x h = ⊎_elim inl (λ p. inr (p.0, omega (arith, p.1), p.2)) (nth_append zs ys i x h)
 
-  nth_one : (y : X) (i : ℕ) (x : X) → slice_get (y ∷ []) i ≡ Some x → (i ≡ 0) × (x ≡ y)
+  pub nth_one : (y : X) (i : ℕ) (x : X) → slice_get (y ∷ []) i ≡ Some x → (i ≡ 0) × (x ≡ y)
   nth_one y zero x h = (refl, cc)
   nth_one y (suc i) x h = absurd (none_some h)
 

@@ -28,7 +28,7 @@ pub map_passed : {A B : Type 0} (f : A → B) (r : Result A Refusal) (b : B) →
 map_passed f (Ok a) b h = (a, refl, cc)
 map_passed f (Err e) b h = absurd (ok_err h)
 
-demanded : (t : Bool) (e : Refusal) (u : Unit {0}) → Ok u ≡ demand t e → t ≡ true
+pub demanded : (t : Bool) (e : Refusal) (u : Unit {0}) → Ok u ≡ demand t e → t ≡ true
 demanded true e u h = refl
 demanded false e u h = absurd (ok_err h)
 
@@ -36,7 +36,7 @@ pub was_some : {A : Type 0} (o : Option A) (e : Refusal) (a : A) → Ok a ≡ ok
 was_some (Some x) e a h = cc
 was_some None e a h = absurd (ok_err h)
 
-each_passed : {X : Type 0} (t : X → Bool) (xs : List X) → every t xs ≡ true → (k : ℕ) (x : X) → slice_get xs k ≡ Some x → t x ≡ true
+pub each_passed : {X : Type 0} (t : X → Bool) (xs : List X) → every t xs ≡ true → (k : ℕ) (x : X) → slice_get xs k ≡ Some x → t x ≡ true
 each_passed t [] h k x e = absurd (none_some e)
 each_passed t (y ∷ ys) h zero x e = cc (and_parts (t y) (every t ys) h).0
 each_passed t (y ∷ ys) h (suc k) x e = each_passed t ys (and_parts (t y) (every t ys) h).1 k x e
@@ -55,13 +55,13 @@ pub record Fits (m : BookM) (n : ℕ) (x : Operand) : Type 0 where
   pub typed : type_of m x.value ≡ Some x.ty
   pub number : x.use_uid ≡ n
 
-operand_passed : (m : BookM) (n : ℕ) (v : Value) (x : Operand) → Ok x ≡ operand m n v → Fits m n x
+pub operand_passed : (m : BookM) (n : ℕ) (v : Value) (x : Operand) → Ok x ≡ operand m n v → Fits m n x
 operand_passed m n v x h =
     let p = map_passed _ (value_type m v) x h in
     subst (Fits m n) (sym p.2) (record { typed = was_some (type_of m v) (NoValue v.val_uid) p.0 p.1; number = refl })
 
 -- operand places with uses numbered from n on
-operands_passed : (m : BookM) (n : ℕ) (vs : List Value) (xs : List Operand) → Ok xs ≡ operands_of m n vs → (length xs ≡ length vs) × ((k : ℕ) (x : Operand) → slice_get xs k ≡ Some x → Fits m (n + k) x)
+pub operands_passed : (m : BookM) (n : ℕ) (vs : List Value) (xs : List Operand) → Ok xs ≡ operands_of m n vs → (length xs ≡ length vs) × ((k : ℕ) (x : Operand) → slice_get xs k ≡ Some x → Fits m (n + k) x)
 operands_passed m n [] xs h =
     let e : xs ≡ [] = cc in
     (ap length e, λ k x f. absurd (none_some (subst (λ ys. slice_get ys k ≡ Some x) e f)))

@@ -21,7 +21,7 @@ found {x} {y} = ≡_prop (coded_option coded_ℕ) x y
 stood : {x y : Option (Option ℕ)} → IsProp (x ≡ y)
 stood {x} {y} = ≡_prop (coded_option (coded_option coded_ℕ)) x y
 
-nested_prop : (ls : List (List ℕ)) (ps : List (Option ℕ)) (a b : Nested ls ps) → a ≡ b
+pub nested_prop : (ls : List (List ℕ)) (ps : List (Option ℕ)) (a b : Nested ls ps) → a ≡ b
 nested_prop ls ps a b =
     λ i. record {
       stands = λ p k c xs e f. stood (a.stands p k c xs e f) (b.stands p k c xs e f) i;
@@ -29,7 +29,7 @@ nested_prop ls ps a b =
       once = λ p k l c xs e f g. number (a.once p k l c xs e f g) (b.once p k l c xs e f g) i;
     }
 
-few_prop : (L : Limits) (o : BodyM) (a b : Few L o) → a ≡ b
+pub few_prop : (L : Limits) (o : BodyM) (a b : Few L o) → a ≡ b
 few_prop L o a b =
     λ i. record {
       results = le_prop a.results b.results i;

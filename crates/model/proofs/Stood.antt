@@ -16,7 +16,7 @@ pub stays_refl : (p : Option ℕ) → Stays p p
 stays_refl None = tt
 stays_refl (Some x) = refl
 
-stays_trans : (p q r : Option ℕ) → Stays p q → Stays q r → Stays p r
+pub stays_trans : (p q r : Option ℕ) → Stays p q → Stays q r → Stays p r
 stays_trans None q r a b = tt
 stays_trans (Some x) q r a b = subst (λ z. Stays z r) a b
 
@@ -27,13 +27,13 @@ stays_none p q e = subst (λ z. Stays z q) (sym e) tt
 pub grown_refl : (xs : List ℕ) → Grown xs xs
 grown_refl xs = ([], sym (append-nil xs))
 
-grown_trans : (xs ys zs : List ℕ) → Grown xs ys → Grown ys zs → Grown xs zs
+pub grown_trans : (xs ys zs : List ℕ) → Grown xs ys → Grown ys zs → Grown xs zs
 grown_trans xs ys zs a b = (a.0 ++ b.0, b.1 ∙ ap (λ us. us ++ b.0) a.1 ∙ append_assoc xs a.0 b.0)
 
 pub op_refl : (o : OpM) → OpLasts o o
 op_refl o = record { kind = refl; location = refl; results = refl; successors = refl; regions = refl; parent = stays_refl o.parent }
 
-op_trans : (o p q : OpM) → OpLasts o p → OpLasts p q → OpLasts o q
+pub op_trans : (o p q : OpM) → OpLasts o p → OpLasts p q → OpLasts o q
 op_trans o p q a b = record {
   kind = b.kind ∙ a.kind;
   location = b.location ∙ a.location;
@@ -46,7 +46,7 @@ op_trans o p q a b = record {
 pub block_refl : (b : BlockM) → BlockLasts b b
 block_refl b = record { args = refl; ops = grown_refl b.ops; parent = stays_refl b.parent }
 
-block_trans : (x y z : BlockM) → BlockLasts x y → BlockLasts y z → BlockLasts x z
+pub block_trans : (x y z : BlockM) → BlockLasts x y → BlockLasts y z → BlockLasts x z
 block_trans x y z a b = record {
   args = b.args ∙ a.args;
   ops = grown_trans x.ops y.ops z.ops a.ops b.ops;
@@ -56,7 +56,7 @@ block_trans x y z a b = record {
 pub region_refl : (r : RegionM) → RegionLasts r r
 region_refl r = record { owner = refl; blocks = grown_refl r.blocks }
 
-region_trans : (x y z : RegionM) → RegionLasts x y → RegionLasts y z → RegionLasts x z
+pub region_trans : (x y z : RegionM) → RegionLasts x y → RegionLasts y z → RegionLasts x z
 region_trans x y z a b = record { owner = b.owner ∙ a.owner; blocks = grown_trans x.blocks y.blocks z.blocks a.blocks b.blocks }
 
 -- ---- a table of rows of which each lasts
@@ -77,7 +77,7 @@ module _ {X : Type 0} (R : X → X → Type 0) (same : (x : X) → R x x) (xs : 
       (λ z. (x, nth_edit_other xs i j g z ∙ e, same x))
       (cases_eq j i)
 
-rows_trans : {X : Type 0} (R : X → X → Type 0) (xs ys zs : List X) → ((x y z : X) → R x y → R y z → R x z) → RowsLast R xs ys → RowsLast R ys zs → RowsLast R xs zs
+pub rows_trans : {X : Type 0} (R : X → X → Type 0) (xs ys zs : List X) → ((x y z : X) → R x y → R y z → R x z) → RowsLast R xs ys → RowsLast R ys zs → RowsLast R xs zs
 rows_trans R xs ys zs t a b i x e = let p = a i x e in let q = b i p.0 p.1 in (q.0, q.1, t x p.0 q.0 p.2 q.2)
 
 pub rows_below : {X : Type 0} (R : X → X → Type 0) (xs ys : List X) → RowsLast R xs ys → (i : ℕ) → i < length xs → i < length ys
@@ -126,7 +126,7 @@ args_last None q h = inr refl
 args_last (Some x) q h = let p = h x refl in inl (ap args_at p.1 ∙ p.2.args)
 
 -- a row that defines anything defines the same ever after
-defined_lasts : (m n : BookM) → Lasts m n → (e : DefiningEntity) → (defined_by n e ≡ defined_by m e) ⊎ (defined_by m e ≡ [])
+pub defined_lasts : (m n : BookM) → Lasts m n → (e : DefiningEntity) → (defined_by n e ≡ defined_by m e) ⊎ (defined_by m e ≡ [])
 defined_lasts m n l (Op i) = results_last (slice_get m.ops i) (slice_get n.ops i) (l.ops i)
 defined_lasts m n l (Block b) = args_last (slice_get m.blocks b) (slice_get n.blocks b) (l.blocks b)
 

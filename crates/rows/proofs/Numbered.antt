@@ -11,7 +11,7 @@ numbered_push f n (y ∷ ys) x =
     let e : (n + 1) + length ys ≡ n + length (y ∷ ys) = omega arith in
     ap (λ zs. f n y ∷ zs) (numbered_push f (n + 1) ys x ∙ ap (λ k. numbered f (n + 1) ys ++ f k x ∷ []) e)
 
-numbered_more : {X Y : Type 0} (f : ℕ → X → Y) (n : ℕ) (xs : List X) (i : ℕ) (d : X) → i < length xs → numbered f n (take (i + 1) xs) ≡ numbered f n (take i xs) ++ f (n + i) (get_or xs i d) ∷ []
+pub numbered_more : {X Y : Type 0} (f : ℕ → X → Y) (n : ℕ) (xs : List X) (i : ℕ) (d : X) → i < length xs → numbered f n (take (i + 1) xs) ≡ numbered f n (take i xs) ++ f (n + i) (get_or xs i d) ∷ []
 numbered_more f n xs i d h =
     ap (numbered f n) (take_more xs i d h) ∙ numbered_push f n (take i xs) (get_or xs i d) ∙ ap (λ k. numbered f n (take i xs) ++ f (n + k) (get_or xs i d) ∷ []) (length-take-le i xs (omega arith))
 

@@ -1,5 +1,5 @@
 // The segment sizes of an operation. Sizes that are absent and an empty list of sizes are two states.
-ghost use Rattle.std.specs.Prelude.{◌≡◌, ℕ, ◌≤◌, List, Option, None, Some, IfOk, vec_items, vec_capacity};
+ghost use Rattle.std.specs.Prelude.{◌≡◌, ℕ, ◌≤◌, List, Option, None, Some, IfOk, length, vec_items, vec_capacity};
 ghost use Rattle.std.specs.Option.{option_map};
 ghost use Rattle.ir.specs.Limits.{limits};
 ghost use Rattle.rows.specs.Sizes.{where_set};
@@ -36,6 +36,16 @@ impl SegmentSizes {
         ensures { option_map (λ z. z.now) result ≡ self.now }
     {
         self.set.then_some(self.list.as_slice())
+    }
+
+    // these, for which there is room, in the place of what was there
+    pub fn set(&mut self, sizes: &[u32])
+        requires { length sizes.now ≤ limits.segments }
+        ensures { self.new ≡ Some sizes.now }
+    {
+        self.list.clear();
+        let _ = self.list.extend_from_slice(sizes);
+        self.set = true;
     }
 
     pub fn unset(&mut self)
