@@ -3,6 +3,7 @@
 
 use anyhow::anyhow;
 use session::course::Course;
+use session::failure::FailureShown;
 use session::read::read_course;
 use std::io::Read;
 use std::{env, fs, io};
@@ -44,7 +45,8 @@ fn run(rt: &HostRuntime) -> anyhow::Result<()> {
             }
         }
         Err(failure) => {
-            eprintln!(rt; "{failure}")?;
+            let text = bytes.as_slice();
+            eprintln!(rt; "{}", FailureShown { failure, text })?;
             Err(anyhow!("the course was not read to its end"))
         }
     }

@@ -1,3 +1,4 @@
 pub mod Names
 pub mod Entered
 pub mod Unmade
+pub mod Wrongs

@@ -1,5 +1,8 @@
-// The line of a course file that is wrong, in readable form.
-use crate::lines::Line;
+// The line of a course file that is wrong, and what of it is shown.
+ghost use Rattle.std.specs.Prelude.{◌≡◌};
+ghost use Rattle.session.specs.declared.failure.Wrong.TheVariants.{Trouble};
+ghost use Rattle.session.specs.Wrongs.{read_wrong};
+
 use crate::trouble::Trouble;
 use reading::problem::{Problem, ReadError};
 use std::fmt;
@@ -13,6 +16,8 @@ pub enum Wrong {
 }
 
 impl From<ReadError> for Wrong {
+    ghost from_gives = { λ e r. r ≡ read_wrong e };
+
     fn from(e: ReadError) -> Wrong {
         match e {
             ReadError::Malformed(problem) => Wrong::Malformed(problem),
@@ -22,25 +27,35 @@ impl From<ReadError> for Wrong {
 }
 
 impl From<Trouble> for Wrong {
+    ghost from_gives = { λ e r. r ≡ Trouble e };
+
     fn from(e: Trouble) -> Wrong {
         Wrong::Trouble(e)
     }
 }
 
-// The first line that is wrong.
+// The first line that is wrong, counted from 1, and the place in the text where it begins. It is kept apart from the text.
 #[derive(Clone, Copy)]
-pub struct Failure<'a> {
-    pub line: Line<'a>,
+pub struct Failure {
+    pub line: u32,
+    pub start: usize,
     pub wrong: Wrong,
 }
 
-impl<'a> fmt::Display for Failure<'a> {
+// A failure in readable form, with the text that it was found in.
+#[derive(Clone, Copy)]
+pub struct FailureShown<'a> {
+    pub failure: Failure,
+    pub text: &'a [u8],
+}
+
+impl<'a> fmt::Display for FailureShown<'a> {
     fn fmt<W: fmt::Write>(&self, f: &mut fmt::Formatter<W>) -> fmt::Result {
-        let line = self.line.number;
-        match self.wrong {
+        let Failure { line, start, wrong } = self.failure;
+        match wrong {
             Wrong::Malformed(problem) => {
                 let column = problem.column();
-                let found = Found(problem.text(self.line.text));
+                let found = Found(problem.text(self.text.get(start..).unwrap_or(&[])));
                 let expected = problem.expected;
                 write!(
                     f,

@@ -37,7 +37,11 @@ impl Names {
     pub fn find(&self, name: &Name) -> Option<DefiningEntity>
         ensures { result ≡ row_named name.now self.now.entries.items }
     {
-        self.entries.iter().find(|e| e.name == *name).map(|e| e.row)
+        // by their texts and not by `==` on names, which compares the whole buffer
+        self.entries
+            .iter()
+            .find(|e| e.name.text() == name.text())
+            .map(|e| e.row)
     }
 
     // memory for one name more

@@ -57,21 +57,25 @@ fn read_one(heap: Global, course: Option<Course>, line: &Line<'_>) -> Result<Opt
 }
 
 // the course that the text says, or its first line that is wrong
-pub fn read_course(heap: Global, text: &[u8]) -> Result<Course, Failure<'_>>
+pub fn read_course(heap: Global, text: &[u8]) -> Result<Course, Failure>
     ensures { IfOk result CourseLed }
 {
     let mut course = None;
-    let mut line = Line::new(0, &text[..0]);
+    let mut line = 1;
+    let mut start: usize = 0;
     for (before, bytes) in text.split_inclusive(|b| *b == b'\n').enumerate() {
-        line = Line::new(before, bytes);
-        // a match, since `map_err` and `?` on a failure that holds the line are not proved
-        course = match read_one(heap, course, &line) {
+        let now = Line::new(before, bytes);
+        line = now.number;
+        // a match, since `map_err` and `?` are not proved here
+        course = match read_one(heap, course, &now) {
             Ok(next) => next,
-            Err(wrong) => return Err(Failure { line, wrong }),
+            Err(wrong) => return Err(Failure { line, start, wrong }),
         };
+        start = start.saturating_add(bytes.len());
     }
     course.ok_or(Failure {
         line,
+        start: text.len(),
         wrong: Wrong::Trouble(Trouble::TypesMissing),
     })
 }
