@@ -1,3 +1,2 @@
-pub mod Types
 pub mod Fed
 pub mod Ranges

@@ -27,7 +27,8 @@ pub const BARE: NewOperation<'static, Value> = NewOperation {
 
 // a book with operation 0, which has one result, and block 0
 pub fn fresh(heap: Global) -> anyhow::Result<Book> {
-    let mut book = Book::new(heap, &[7]).context("no book was made")?;
+    // its own words alone, without the cause
+    let mut book = Book::new(heap, &[7]).map_err(|_| anyhow!("no book was made"))?;
     let with_result = NewOperation {
         result_types: &[0],
         ..BARE

@@ -12,7 +12,14 @@ use ir::value::Use;
 fn count_in<P: UsePlace>(places: &[P], x: P::Held) -> usize
     ensures { result ≡ length (filter (P.kind.test x) places.now) }
 {
-    places.iter().filter(|p| p.holds(x)).count()
+    // a loop, since `filter` and `count` took half as much time again
+    let mut n: usize = 0;
+    for p in places {
+        if p.holds(x) {
+            n += 1;
+        }
+    }
+    n
 }
 
 // how many places of all operations use x

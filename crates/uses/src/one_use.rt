@@ -19,11 +19,13 @@ pub fn get_user_op<P: UsePlace>(u: Use<P>) -> usize
 fn find<P: UsePlace>(places: &[P], n: u32) -> Option<(usize, P)>
     ensures { result ≡ find_in P.kind.uid n places.now }
 {
-    places
-        .iter()
-        .enumerate()
-        .find(|(_, p)| p.number() == n)
-        .map(|(k, p)| (k, *p))
+    // a loop, since `find` among pairs took a fifth more instructions
+    for (k, p) in places.iter().enumerate() {
+        if p.number() == n {
+            return Some((k, *p));
+        }
+    }
+    None
 }
 
 // the place that is the use, with its index, where there is one; or refusal 1
